@@ -22,13 +22,14 @@
 #   make wrong-bodies      tries the mutants that weren't refused yet in their present form, over what `make check` keeps; ALL=1: all; CRATE="NAME.." names some
 #   make surface           the public functions and their mutants: docs/SURFACE.md, and how many mutants: README.md
 #   make statement         what the headline says: docs/STATEMENT.md, and all other definitions that it needs: bin/DEFINITIONS.md
-#   make bench             times the program; nothing fails by time
+#   make bench             times the program, and writes docs/PERFORMANCE.md with its plots; nothing fails by time
+#   make pictures          makes README's picture of an editor and those of docs/ARCHITECTURE.md
 PREFIX ?= /usr/local
 PYTHON ?= python3
 # (a recipe reads these from the environment, so that a shell takes nothing out of them)
 export PREFIX DESTDIR
 
-.PHONY: help demo test build check editors try end-to-end faults wrong-bodies surface statement bench package vsix install uninstall python
+.PHONY: help demo test build check editors try end-to-end faults wrong-bodies surface statement bench pictures package vsix install uninstall python
 
 help:
 	@sed -n '/^#/!q; s/^# \{0,1\}//p' Makefile
@@ -68,6 +69,11 @@ statement: python
 
 bench: build
 	@$(PYTHON) bench/run.py
+	@$(PYTHON) bench/report.py
+
+pictures: build
+	@$(PYTHON) tools/rooms.py
+	@$(PYTHON) tools/screens.py
 
 package: build
 	@$(PYTHON) tools/package.py package

@@ -11,7 +11,6 @@ import ctypes
 import functools
 import os
 import re
-import shutil
 import signal
 import subprocess
 import sys
@@ -29,6 +28,7 @@ import corpus  # noqa: E402
 import keys  # noqa: E402
 from harness import BINARY, EXIT, SHUTDOWN, did_change, did_open, extent, frame, frames, initialize, place, request  # noqa: E402
 from common import match_of  # noqa: E402
+from counting import instructions_of_conversation, lacks  # noqa: E402
 from framing import Incoming, Message  # noqa: E402
 
 MIB = 1 << 20
@@ -742,21 +742,6 @@ def laid_out() -> None:
 
     growth("layout of a module of", [100000, 900000], corpus.module, each)
     growth("layout of a module on one line of", [100000, MIB], wide, each)
-
-
-def lacks(command: str) -> str | None:
-    """What is said of a command that isn't here, or None."""
-    return None if shutil.which(command) else f"{command} is missing (on Debian: apt-get install {command})"
-
-
-def instructions_of_conversation(program: str, given: bytes) -> int:
-    """How many instructions a conversation takes: the same on each run, where times vary."""
-    with tempfile.TemporaryFile() as file:
-        file.write(given)
-        file.seek(0)
-        words = ["valgrind", "--tool=callgrind", "--callgrind-out-file=/dev/null", program, "serve"]
-        done = subprocess.run(words, stdin=file, stdout=subprocess.DEVNULL, stderr=subprocess.PIPE, check=False)
-    return int(match_of(r"Collected : (\d+)", done.stderr.decode())[1])
 
 
 @measure("keys: what an editor does while one types: instructions, and time on a processor")

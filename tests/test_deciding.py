@@ -130,7 +130,7 @@ def editors_of_release() -> None:
         same(printed(lambda: editors_of.main("sid"))[0], 2, "the status for a user who isn't root")
 
 
-@test("deciding: a root that isn't as it was stops the trial of packages, by a path, a mode or a size; what a system keeps for itself doesn't")
+@test("deciding: a root that isn't as it was stops the trial of packages, by a path, a mode or a byte; what a system keeps for itself doesn't")
 def roots_compared() -> None:
     roots = tool("roots")
     changes: Dict[str, Tuple[Callable[[str], object], bool]] = {
@@ -139,11 +139,14 @@ def roots_compared() -> None:
         "another path": (lambda at: write(os.path.join(at, "usr", "new"), ""), False),
         "a path fewer": (lambda at: os.unlink(os.path.join(at, "usr", "old")), False),
         "another mode": (lambda at: os.chmod(os.path.join(at, "usr"), 0o700), False),
-        "another size": (lambda at: write(os.path.join(at, "usr", "old"), "longer"), False),
+        "another byte": (lambda at: write(os.path.join(at, "usr", "old"), "odd"), False),
+        "another link": (lambda at: os.replace(os.path.join(at, "usr", "other"), os.path.join(at, "usr", "link")), False),
     }
     for what, (change, is_same) in changes.items():
         with temporary() as room:
             write(os.path.join(room, "usr", "old"), "old")
+            os.symlink("old", os.path.join(room, "usr", "link"))
+            os.symlink("new", os.path.join(room, "usr", "other"))
             os.makedirs(os.path.join(room, "var"))
             before = roots.state(room)
             change(room)

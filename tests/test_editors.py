@@ -550,7 +550,10 @@ def in_vscode_by(*kind: str, folder: str = vsix.FOLDER) -> None:
     unsaved = "The file wasn't saved, so there is nothing to run."
     same(found["unsaved"], {"ran": [os.path.join(os.path.dirname(file), "named.mod")], "said": [unsaved, unsaved]}, "files that aren't saved")
     told = ["Request textDocument/formatting failed."] if "real" in kind else []
-    same((found["faulty"], found["told"]), ("ill-typed", told), "a layout of a module with a fault, and what is shown of it")
+    ill_typed = "the module has an error: fix the first one that is marked (ill-typed)"
+    same((found["faulty"], found["told"]), (ill_typed, told), "a layout of a module with a fault, and what is shown of it")
+    refused = ["line 3: `Write` would mean another declaration (Captures)", "line 2: `j` is declared there already (Duplicate)"]
+    same(found["refused"], refused, "renames that are refused, with the lines as the editor counts them")
     same(found["edits"]["made"], MADE_AT_ONCE, "what answers leave that come at once")
     same(found["edits"]["late"], MADE_LATE, "what answers leave that come after a change")
     same(found["edits"]["said"], ["The text was changed since the action was offered: ask for it again."], "what is said of an old action")
@@ -558,7 +561,7 @@ def in_vscode_by(*kind: str, folder: str = vsix.FOLDER) -> None:
     same(found["settings"], ["ob0.path", "ob0.trace.server"], "the settings that are declared")
     announced = [it["params"]["capabilities"]["workspace"]["workspaceEdit"]["documentChanges"] for it in started]
     same(announced, [True] * 4, "whether the client announces that it takes versions, at its start and each restart")
-    same({version for it in renamed for change in it["result"]["documentChanges"] for version in [change["textDocument"]["version"]]}, {1, 2}, "the versions")
+    same({version for it in renamed if "result" in it for change in it["result"]["documentChanges"] for version in [change["textDocument"]["version"]]}, {1, 2}, "the versions")
 
 
 @test("VS Code: the extension, with stand-ins for the editor and its client, starts the server, drops late answers, checks and runs")

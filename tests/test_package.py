@@ -461,6 +461,21 @@ def in_nano() -> None:
             screen.shows(b"\x1b\\[[0-9;]*mMODULE", "a coloured word in nano")
 
 
+@test("package: GtkSourceView finds its language, of a module that a desktop has no type for")
+def in_gtksourceview() -> None:
+    want("GtkSourceView", "PyGObject")
+    with temporary() as room:
+        usr = placed(room)
+        environment, work = own(room, usr), os.path.join(room, "work")
+        write(os.path.join(work, "new.ob0"), MODULE)
+        words = ["/usr/bin/python3", os.path.join(TOP, "tests", "editors", "gtksourceview.py"), "new.ob0"]
+        status, said = run_plainly(words, environment, work)
+        same(status, 0, said[-1500:])
+        found = json.loads(said.splitlines()[-1])
+        colours = [it for it in found["styles"]["MODULE"] if it.startswith("rgb")]
+        same((found["language"], len(colours)), ("oberon0", 1), "the language, and whether a reserved word has a colour")
+
+
 @test("package: a desktop takes its type of modules")
 def on_a_desktop() -> None:
     want("MIME types", "gio")

@@ -98,6 +98,7 @@ DESKTOP = {
     "zsh": (here("zsh"), "zsh"),
     "fish": (here("fish"), "fish"),
     "mandoc": (here("mandoc"), "mandoc"),
+    "tmux": (here("tmux"), "tmux"),
     "mypy": (here("mypy"), "mypy"),
     "gpg": (here("gpg"), "gnupg"),
     "package-lint": (in_emacs("package-lint"), "elpa-package-lint"),

@@ -1,9 +1,9 @@
 #!/usr/bin/env python3
-"""The rooms of crates.txt, and the picture of them in docs/ARCHITECTURE.md.
+"""The rooms of crates.txt and the life of a message, drawn for docs/ARCHITECTURE.md.
 
-  tools/rooms.py           draws the picture from crates.txt and writes it into the page
+  tools/rooms.py           draws the rooms from crates.txt and writes them into the page, and makes the page's two pictures
 
-A room is a heading of crates.txt, `# NAME: TEXT`, with the crates below it. It rests on the rooms whose crates its own
+The picture of the rooms has what the page's text has, and that of a message has the rows of the page's block. A room is a heading of crates.txt, `# NAME: TEXT`, with the crates below it. It rests on the rooms whose crates its own
 crates name; the picture has the nearest: not those that one of the others rests on too."""
 from __future__ import annotations
 
@@ -13,9 +13,15 @@ import sys
 from dataclasses import dataclass, field
 
 import common
+import layers
+from svg import Picture
 
 PAGE = os.path.join(common.TOP, "docs", "ARCHITECTURE.md")
 PICTURE = re.compile(r"(## The rooms\n\n```\n).*?(```\n)", re.S)
+STEPS = re.compile(r"(## The life of a message\n\n```\n)(.*?)(```\n)", re.S)
+PICTURES = os.path.join(common.TOP, "docs", "pictures")
+# the sizes of a box and of the room for one
+BOX, CELL = (202, 50), (218, 84)
 
 
 @dataclass
@@ -80,11 +86,73 @@ def draw() -> str:
     return "".join(f"{line}\n" for line in lines)
 
 
+def halves(text: str) -> list[str]:
+    """A text on one line if it fits into a box, otherwise on two of about the same length."""
+    words = text.split()
+    cut = min(range(1, len(words) + 1), key=lambda at: max(len(" ".join(words[:at])), len(" ".join(words[at:]))))
+    return [text] if len(text) <= 28 else [" ".join(words[:cut]), " ".join(words[cut:])]
+
+
+def picture_of_rooms() -> str:
+    """The rooms as boxes, each with an arrow to the nearest rooms that it rests on."""
+    rooms = [room for room in read_rooms() if room.name != "tests"]
+    arrows = {name: lower for name, lower in nearest(rooms_below(read_rooms())).items() if name != "tests"}
+    places = layers.placed(arrows)
+    top, last = max(at for at, _ in places.values()), max(places[room.name][1] for room in rooms)
+    width, height = (last + 0.5) * CELL[0] + 16, (top + 1) * CELL[1] - 10
+    drawn = Picture(width, height, "The rooms of ob0's crates, and which rooms each one rests on")
+    middles = {name: (8 + column * CELL[0], (top - at) * CELL[1] + 37) for name, (at, column) in places.items()}
+    for path in layers.joints(arrows).values():
+        # (an arrow goes straight down between boxes)
+        points = [(x, y + side * BOX[1] / 2) for x, y in (middles[it] for it in path) for side in (-1, 1)]
+        drawn.line(points[1:-1], has_head=True)
+    for room in rooms:
+        x, y = middles[room.name]
+        drawn.box((x - BOX[0] / 2, y - BOX[1] / 2), BOX)
+        lines = halves(room.text.partition(";")[0])
+        drawn.text((x, y - 2 - 6 * (len(lines) - 1)), room.name, anchor="middle", weight="bold", size=14)
+        for at, line in enumerate(lines):
+            drawn.text((x, y + 15 - 6 * (len(lines) - 1) + 12 * at), line, "faint", 11, "middle")
+    return drawn.svg()
+
+
+def steps_of(page: str) -> list[list[str]]:
+    """The rows of the page's block on a message: what arrives, the function that takes it, its crate, and what it does."""
+    return [re.split(r" +──► | {2,}", line) for line in common.match_of(STEPS.pattern, page, STEPS.flags)[2].splitlines()]
+
+
+def picture_of_message(page: str) -> str:
+    """The life of a message, from top to bottom: a box for each step, with what arrives there."""
+    rows = steps_of(page)
+    width, step = 760, 62
+    drawn = Picture(width, len(rows) * step + 26, "The life of a message, from bytes to bytes")
+    for at, (given, function, crate, text) in enumerate(rows):
+        y = 30 + at * step
+        drawn.line([(190, y - 26), (190, y)], has_head=True)
+        drawn.text((176, y - 11), given, "two", 12, "end")
+        drawn.box((20, y), (340, 34))
+        drawn.text((32, y + 22), function, weight="bold")
+        drawn.text((348, y + 22), crate, "faint", 12, "end")
+        drawn.text((378, y + 22), text, size=12)
+    return drawn.svg()
+
+
+def pictures() -> dict[str, str]:
+    """Each picture by its file's name."""
+    with open(PAGE, encoding="utf-8") as file:
+        page = file.read()
+    return {"rooms.svg": picture_of_rooms(), "message.svg": picture_of_message(page)}
+
+
 def main() -> int:
     with open(PAGE, encoding="utf-8") as file:
         page = file.read()
     with open(PAGE, "w", encoding="utf-8") as file:
         file.write(PICTURE.sub(lambda found: found[1] + draw() + found[2], page))
+    os.makedirs(PICTURES, exist_ok=True)
+    for name, drawn in pictures().items():
+        with open(os.path.join(PICTURES, name), "w", encoding="utf-8") as file:
+            file.write(drawn)
     return 0
 
 

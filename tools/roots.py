@@ -1,11 +1,12 @@
 #!/usr/bin/env python3
-"""Tries the packages in roots of Debian: installed, replaced by a mended build, removed; unpacked from the archive, removed.
+"""Tries the packages of two releases in roots of Debian: installs the first, puts the second over it, and removes it.
 
-  tools/roots.py FOLDER [SUITE..]   makes a root of each suite (bookworm and trixie, Debian 12 and 13) in FOLDER, unless one is
-                                    there, and tries what bin/ob0 is packed into in a copy of it
+  tools/roots.py FOLDER [SUITE..]   makes a root of each suite (bookworm and trixie, Debian 12 and 13) in FOLDER, unless one exists,
+                                    and tries what bin/ob0 is packed into in copies of it
 
-It wants to be root, debootstrap and the network. After each removal the copy has to be as it was: no path more or fewer, no other mode
-or owner. The last line is 'N roots passed'."""
+It has to run as root, and needs debootstrap and the network. The Debian package is removed and purged; the archive is removed by README's
+line and by `make uninstall`. After each removal the copy has to be as it was: each path with its mode, its owner, its group and its bytes.
+If piuparts is installed, it tries the Debian package too. The last line is 'N roots passed'."""
 from __future__ import annotations
 
 import os
@@ -21,14 +22,16 @@ import common
 import package
 from common import TOP, match_of
 
-# each path with its mode, its owner, its group and, of a file, its size
-State = Dict[str, Tuple[str, int, int, Optional[int]]]
+# each path with its mode, its owner, its group and a sum over a file's bytes or a link's target
+State = Dict[str, Tuple[str, int, int, Optional[str]]]
 SUITES = ["bookworm", "trixie"]
 MIRROR = "http://deb.debian.org/debian"
 # what a system keeps for itself, and what is no part of a system
 LEFT_OUT = {"dev", "proc", "run", "sys", "tmp", "var"}
 PAGE = f"{package.DOC}/README.md"
-MENDED = b"\nA mended build.\n"
+ADDED = b"\nA second release.\n"
+# a file that only the first release has, and one in a new folder that only the second has
+DROPPED, NEW = f"{package.DOC}/docs/TEACHING.md", f"{package.DOC}/docs/new/NEW.md"
 
 
 def ran(words: list[str], **named: str) -> str:
@@ -46,8 +49,15 @@ def inside(root: str, line: str) -> str:
     return ran(["chroot", root, "sh", "-e", "-c", line])
 
 
+def content_of(path: str, mode: int) -> str | None:
+    """A sum over a file's bytes, or a link's target; None of everything else."""
+    if stat.S_ISLNK(mode):
+        return os.readlink(path)
+    return common.file_sum(path) if stat.S_ISREG(mode) else None
+
+
 def state(root: str) -> State:
-    """Each path of a root with its mode, its owner and, of a file, its size."""
+    """Each path of a root with its mode, its owner, its group and its content."""
     found: State = {}
     for at, folders, files in os.walk(root):
         if at == root:
@@ -55,8 +65,7 @@ def state(root: str) -> State:
         for name in folders + files:
             path = os.path.join(at, name)
             known = os.lstat(path)
-            size = known.st_size if stat.S_ISREG(known.st_mode) else None
-            found[os.path.relpath(path, root)] = (oct(known.st_mode), known.st_uid, known.st_gid, size)
+            found[os.path.relpath(path, root)] = (oct(known.st_mode), known.st_uid, known.st_gid, content_of(path, known.st_mode))
     return found
 
 
@@ -65,40 +74,76 @@ def same_state(root: str, before: State, what: str) -> None:
     changed = [f"{it}: {before.get(it)}, and then {after.get(it)}" for it in sorted({*before, *after}) if before.get(it) != after.get(it)]
     if changed:
         common.stop(f"{what}: not as it was:\n" + "\n".join(changed[:20]), 1)
-    print(f"  {what}: nothing left, no mode changed", flush=True)
+    print(f"  {what}: nothing is left, and nothing else has changed", flush=True)
 
 
-def make_builds(folder: str) -> dict[str, list[str]]:
-    """Packs two builds, the second of a later version and with another page: for each its Debian package and its archive."""
-    builds = {}
-    for name, page in (("first", b""), ("mended", MENDED)):
+def make_releases(folder: str) -> dict[str, list[str]]:
+    """Packs two releases, the second with another page, a file less and a file more: for each its Debian package and its archive."""
+    releases = {}
+    for name in ("first", "second"):
         os.environ["BUILD_VERSION"] = f"{package.version()}~{name}"
         found = package.tree()
-        found[PAGE] = (package.read("README.md") + page, 0o644)
+        if name == "second":
+            found[PAGE] = (package.read("README.md") + ADDED, 0o644)
+            found[NEW] = found.pop(DROPPED)
         room = os.path.join(folder, name)
         os.makedirs(room, exist_ok=True)
         package.write_packages(found, room)
         made = os.listdir(room)
-        builds[name] = [next(os.path.join(room, it) for it in made if it.endswith(end)) for end in (".deb", ".tar.gz")]
-    return builds
+        releases[name] = [next(os.path.join(room, it) for it in made if it.endswith(end)) for end in (".deb", ".tar.gz")]
+    return releases
 
 
-def try_debian(root: str, builds: dict[str, list[str]]) -> None:
-    """The Debian package, a mended one over it, and its removal."""
-    before, versions = state(root), []
-    for deb, _ in builds.values():
-        shutil.copy(deb, os.path.join(root, "tmp"))
-        inside(root, f"apt-get install -y --no-install-recommends ./tmp/{os.path.basename(deb)}")
-        versions.append(inside(root, "dpkg-query -W -f '${Version}' ob0"))
-        inside(root, f"grep -F 'version of the package: {versions[-1]}' /usr/{package.DOC}/PROVED")
-        inside(root, f"ob0 check /usr/{package.DOC}/examples/Gcd.mod; ob0-format --check /usr/{package.DOC}/examples/*.mod")
-    with open(os.path.join(root, "usr", PAGE), "rb") as file:
-        if not file.read().endswith(MENDED):
-            common.stop("the mended build's page isn't there", 1)
-    inside(root, f"dpkg --compare-versions '{versions[0]}' lt '{versions[1]}'")
-    print(f"  {versions[0]} was replaced by {versions[1]}", flush=True)
-    inside(root, "apt-get remove -y ob0")
-    same_state(root, before, "apt-get remove")
+def need_second(usr: str) -> None:
+    """Stops unless the files of the second release are in this folder, and none that only the first has."""
+    with open(os.path.join(usr, PAGE), "rb") as file:
+        is_replaced = file.read().endswith(ADDED)
+    if not is_replaced or os.path.exists(os.path.join(usr, DROPPED)) or not os.path.exists(os.path.join(usr, NEW)):
+        common.stop(f"{usr} hasn't the files of the second release", 1)
+
+
+def works(root: str, usr: str) -> None:
+    """Runs the program and the scripts of an installation on its examples."""
+    examples = f"{usr}/{package.DOC}/examples"
+    inside(root, f"ob0 check {examples}/Gcd.mod; ob0-format --check {examples}/*.mod; ob0 run {examples}/Gcd.mod < {examples}/Gcd.in")
+    inside(root, f"ob0-watch check {examples}/Gcd.mod")
+
+
+def install_package(root: str, deb: str) -> str:
+    """Installs a Debian package in a root, runs what it has, and returns its version."""
+    shutil.copy(deb, os.path.join(root, "tmp"))
+    inside(root, f"apt-get install -y --no-install-recommends ./tmp/{os.path.basename(deb)}")
+    version = inside(root, "dpkg-query -W -f '${Version}' ob0")
+    inside(root, f"grep -F 'version of the package: {version}' /usr/{package.DOC}/PROVED")
+    works(root, "/usr")
+    return version
+
+
+def try_debian(root: str, releases: dict[str, list[str]]) -> None:
+    """The Debian package of the first release, the second over it, and its removal and its purge."""
+    before = state(root)
+    for command in ("remove", "purge"):
+        first, second = (install_package(root, deb) for deb, _ in releases.values())
+        inside(root, f"dpkg --compare-versions '{first}' lt '{second}'")
+        need_second(os.path.join(root, "usr"))
+        print(f"  {first} was replaced by {second}", flush=True)
+        inside(root, f"apt-get {command} -y ob0")
+        same_state(root, before, f"apt-get {command}")
+    if "ob0" in inside(root, "dpkg --get-selections").split():
+        common.stop("dpkg knows of ob0 after the purge", 1)
+
+
+def try_piuparts(suite: str, base: str, deb: str) -> None:
+    """The tests of piuparts: a package that is installed, removed and purged leaves no file, link or process, and changes none."""
+    if not shutil.which("piuparts"):
+        print("  piuparts is missing: it wasn't run", flush=True)
+        return
+    # (no archive of Debian has an earlier version, so the upgrade is tried above)
+    words = ["piuparts", "--distribution", suite, "--mirror", f"{MIRROR} main", "--existing-chroot", base, "--no-upgrade-test"]
+    # (debconf makes this folder when it configures the first package, which python3 brings)
+    ignored = ["--ignore-regex", r"/var/cache/debconf/tmp\.ci/?$"]
+    said = ran([*words, "--warn-on-debsums-errors", *ignored, deb])
+    print(f"  piuparts: {said.strip().splitlines()[-1].partition(': ')[2]}", flush=True)
 
 
 def readme_lines() -> tuple[str, str]:
@@ -109,25 +154,31 @@ def readme_lines() -> tuple[str, str]:
     return f"{umask}; {unpack}".replace("sudo ", ""), take_away.replace("sudo ", "")
 
 
-def try_archive(root: str, archive: str) -> None:
-    """The archive in /usr/local, whose folders have modes and owners of their own, and both ways to take it away."""
+def try_archive(root: str, releases: dict[str, list[str]]) -> None:
+    """The archives in /usr/local, whose folders have modes and owners of their own: the first release, the second in its place, and both
+    ways to remove it."""
     unpack, take_away = readme_lines()
     inside(root, "chgrp staff /usr/local/bin /usr/local/share; chmod 2775 /usr/local/bin /usr/local/share; mkdir -p /usr/local/share/doc/other")
-    before = state(root)
-    shutil.copy(archive, os.path.join(root, "tmp"))
+    before, local = state(root), os.path.join(root, "usr", "local")
     uninstall = [sys.executable, "-B", "tools/package.py", "uninstall", "/usr/local", root]
     ways: dict[str, Callable[[], str]] = {
         "README's line": lambda: inside(root, f"{{ {take_away}; }} || true"),
         "make uninstall": lambda: ran(uninstall),
     }
     for what, remove in ways.items():
-        inside(root, f"cd /tmp; {unpack}; ob0 check /usr/local/{package.DOC}/examples/Gcd.mod")
-        after = state(root)
-        changed = [it for it in before if before[it] != after[it]]
-        if changed:
-            common.stop(f"the archive changed {changed}", 1)
-        remove()
-        same_state(root, before, f"the archive, and {what}")
+        for name, (_, archive) in releases.items():
+            shutil.copy(archive, os.path.join(root, "tmp"))
+            inside(root, f"cd /tmp; {unpack}")
+            works(root, "/usr/local")
+            after = state(root)
+            changed = [it for it in before if before[it] != after[it]]
+            if changed:
+                common.stop(f"the archive changed {changed}", 1)
+            if name == "second":
+                need_second(local)
+            remove()
+            os.unlink(os.path.join(root, "tmp", os.path.basename(archive)))
+            same_state(root, before, f"the archive of the {name} release, and {what}")
 
 
 def try_container(root: str) -> None:
@@ -138,27 +189,42 @@ def try_container(root: str) -> None:
     print(f"  the Containerfile's line: {inside(root, 'ob0 --version').strip()}", flush=True)
 
 
+def copied(base: str, root: str) -> str:
+    """Makes a root anew, as a copy of another."""
+    shutil.rmtree(root, ignore_errors=True)
+    ran(["cp", "-a", base, root])
+    return root
+
+
+def try_suite(suite: str, folder: str, releases: dict[str, list[str]]) -> None:
+    """Everything in one suite of Debian."""
+    base, root = os.path.join(folder, suite), os.path.join(folder, "trial")
+    if not os.path.isdir(base):
+        print(f"making a root of {suite}", flush=True)
+        ran(["debootstrap", "--variant=minbase", suite, base, MIRROR])
+    # (a root that is thrown away needs no file on the disk before the next)
+    with open(os.path.join(base, "etc", "dpkg", "dpkg.cfg.d", "unsafe-io"), "w", encoding="ascii") as settings:
+        settings.write("force-unsafe-io\n")
+    with open(os.path.join(base, "etc", "debian_version"), encoding="ascii") as file:
+        print(f"{suite}, Debian {file.read().strip()}:", flush=True)
+    copied(base, root)
+    inside(root, "apt-get update; apt-get install -y --no-install-recommends python3")
+    try_debian(root, releases)
+    try_archive(root, releases)
+    shutil.copy(releases["second"][0], os.path.join(copied(base, root), "tmp"))
+    try_container(root)
+    shutil.rmtree(root)
+    try_piuparts(suite, base, releases["second"][0])
+
+
 def main(words: list[str]) -> int:
     folder, *suites = words
     common.need("debootstrap")
     package.need_program()
-    builds = make_builds(folder)
+    os.makedirs(folder, exist_ok=True)
+    releases = make_releases(folder)
     for suite in suites or SUITES:
-        base, root = os.path.join(folder, suite), os.path.join(folder, "trial")
-        if not os.path.isdir(base):
-            print(f"making a root of {suite}", flush=True)
-            ran(["debootstrap", "--variant=minbase", suite, base, MIRROR])
-        shutil.rmtree(root, ignore_errors=True)
-        ran(["cp", "-a", base, root])
-        print(f"{suite}:", flush=True)
-        inside(root, "apt-get update; apt-get install -y --no-install-recommends python3")
-        try_debian(root, builds)
-        try_archive(root, builds["mended"][1])
-        shutil.rmtree(root)
-        ran(["cp", "-a", base, root])
-        shutil.copy(builds["mended"][0], os.path.join(root, "tmp"))
-        try_container(root)
-        shutil.rmtree(root)
+        try_suite(suite, folder, releases)
     print(f"{len(suites or SUITES)} roots passed")
     return 0
 

@@ -88,11 +88,27 @@ function asItIs(document) {
   return () => !document.isClosed && document.version === version;
 }
 
+const REFUSALS = { Captures: "would mean another declaration", Duplicate: "is declared there already" };
+
+// The text of a refusal, with the line as VS Code counts it and the name that stands there.
+function inWords(refusal, document) {
+  if (refusal === "ill-typed") return "the module has an error: fix the first one that is marked (ill-typed)";
+  const [, kind, line, start, end] = /^(\w+) (\d+):(\d+)-\d+:(\d+)$/.exec(refusal) || [];
+  if (!REFUSALS[kind]) return refusal;
+  const name = document.lineAt(Number(line)).text.slice(start, end);
+  return `line ${Number(line) + 1}: \`${name}\` ${REFUSALS[kind]} (${kind})`;
+}
+
 async function unlessLate(document, ...more) {
   const next = more.pop();
   const isCurrent = asItIs(document);
-  const found = await next(document, ...more);
-  return isCurrent() ? found : undefined;
+  try {
+    const found = await next(document, ...more);
+    return isCurrent() ? found : undefined;
+  } catch (refusal) {
+    if (isCurrent()) refusal.message = inWords(refusal.message, document);
+    throw refusal;
+  }
 }
 
 // An action waits in a list until it is chosen: its edit is made then, by a command that looks once more.

@@ -107,12 +107,13 @@ async function until(holds, what) {
 }
 
 const TEXT = "MODULE M;\nCONST k = 7;\nBEGIN Write(k) END M.\n";
+const TWO = "MODULE M;\nCONST k = 7; j = 8;\nBEGIN Write(k) END M.\n";
 let count = 0;
 
 // A document of its own for each step, so that each begins at the first version.
-async function fresh(isFirst) {
+async function fresh(isFirst, text = TEXT) {
   const name = path.join(path.dirname(file), `n${++count}.ob0`);
-  fs.writeFileSync(name, TEXT);
+  fs.writeFileSync(name, text);
   const document = user.open(name);
   await until(() => done.diagnostics[name], "the diagnostics of a new document");
   if (!isFirst) user.type(document, 0, 0, " ");
@@ -147,6 +148,16 @@ async function late([method, ask], [isFirst, change]) {
   fs.unlinkSync(hold);
   await asked;
   return shown.text;
+}
+
+// What is said of renames that are refused, each with a place.
+async function refused() {
+  const found = [];
+  for (const name of ["Write", "j"]) {
+    const document = await fresh(true, TWO);
+    found.push(await user.rename(document, 1, 6, name).then(String, (why) => why.message));
+  }
+  return found;
 }
 
 async function edits() {
@@ -242,6 +253,7 @@ async function main() {
   done.messages = [];
   found.faulty = await user.layOut(faulty).then(String, (why) => why.message);
   found.told = done.messages;
+  found.refused = await refused();
   found.edits = await edits();
   found.restarted = await restarted();
   found.stopped = await extension.deactivate().then(() => "deactivated", String);

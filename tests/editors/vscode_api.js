@@ -77,6 +77,7 @@ class Document {
     const lines = this.text.slice(0, offset).split("\n");
     return new Position(lines.length - 1, lines[lines.length - 1].length);
   }
+  lineAt(line) { return { text: this.text.split("\n")[line] }; }
   get lineCount() { return this.text.split("\n").length; }
   // (a user who is asked for a name gives `savedAs`, or cancels; a disk may be full)
   async save() {

@@ -1,0 +1,151 @@
+"""The pictures of the pages: each is what its script draws, from the page's text, the page's tables or a terminal's screen."""
+from __future__ import annotations
+
+import glob
+import os
+import re
+import subprocess
+import sys
+import xml.etree.ElementTree
+from collections.abc import Callable
+
+import common
+import harness
+import rooms
+import screens
+from harness import TOP, holds, need_program, same, test, text_of, want
+from homes import run_plainly, temporary
+
+sys.path.append(os.path.join(TOP, "bench"))
+
+import plots  # noqa: E402
+import programs  # noqa: E402
+import report  # noqa: E402
+
+PICTURES = os.path.join("docs", "pictures")
+PERFORMANCE = os.path.join("docs", "PERFORMANCE.md")
+
+
+@test("pictures: each is shown on a page, is whole, and has colours for dark screens or a paper of its own")
+def shown() -> None:
+    pages = [*glob.glob(os.path.join(TOP, "*.md")), *glob.glob(os.path.join(TOP, "docs", "*.md"))]
+    linked = {os.path.normpath(os.path.join(os.path.dirname(page), it)) for page in pages for it in re.findall(r"!\[[^]]+\]\(([^)]+)\)", text_of(page))}
+    found = {os.path.join(TOP, PICTURES, it) for it in os.listdir(os.path.join(TOP, PICTURES))}
+    same(linked, found, "the pictures of the pages, and those of the folder")
+    holds(len(found) >= 3, str(found))
+    for path in found:
+        drawn = xml.etree.ElementTree.parse(path).getroot()
+        texts = [it for it in drawn.iter() if it.tag.endswith("}text")]
+        name = os.path.basename(path)
+        holds(len(texts) > 5 and drawn.find("{http://www.w3.org/2000/svg}title") is not None, f"{name} has texts and a title")
+        holds("prefers-color-scheme:dark" in text_of(path), f"{name} has colours for dark screens")
+        # (a terminal has a paper of its own)
+        fixed = [it.text for it in texts if it.get("fill") and name != "editor.svg"]
+        same(fixed, [], f"texts of {name} in a colour that doesn't change on dark screens")
+
+
+@test("pictures: those of the rooms and of a message's life are what tools/rooms.py draws, and each step names what its crate has")
+def drawn_from_text() -> None:
+    for name, drawn in rooms.pictures().items():
+        same(text_of(PICTURES, name), drawn, f"{name} (tools/rooms.py draws it)")
+    steps = rooms.steps_of(text_of("docs", "ARCHITECTURE.md"))
+    holds(len(steps) > 5, "the steps of a message")
+    for _, name, crate, _ in steps:
+        sources = glob.glob(os.path.join(TOP, "crates", crate, "src", "*.rt"))
+        holds(any(re.search(rf"\b(fn|struct|enum|trait|type) {name}\b", text_of(it)) for it in sources), f"{crate} has no {name}")
+
+
+@test("pictures: a box stands at each arrow's ends, and no two boxes of the rooms overlap")
+def placed() -> None:
+    drawn = xml.etree.ElementTree.fromstring(text_of(PICTURES, "rooms.svg"))
+    numbers: Callable[[str], float] = float
+    boxes = [[numbers(it.get(name, "0")) for name in ("x", "y", "width", "height")] for it in drawn if it.tag.endswith("rect") and it.get("rx") == "5"]
+    holds(len(boxes) > 10, f"{len(boxes)} boxes")
+    for at, (x, y, width, height) in enumerate(boxes):
+        for other in boxes[at + 1 :]:
+            holds(abs(x - other[0]) >= width or abs(y - other[1]) >= height, f"two boxes overlap at {x}, {y}")
+    for line in (it for it in drawn if it.tag.endswith("polyline")):
+        points = [tuple(map(float, it.split(","))) for it in line.get("points", "").split()]
+        (x, y), (u, v) = points[0], points[-1]
+        holds(any(a <= x <= a + w and abs(b + h - y) < 1 for a, b, w, h in boxes), f"an arrow that begins at {x}, {y}")
+        holds(any(a <= u <= a + w and abs(b - v) < 1 for a, b, w, _ in boxes), f"an arrow that ends at {u}, {v}")
+
+
+@test("pictures: README's is what Neovim shows: an error that is marked, and a rename that is refused")
+def editor() -> None:
+    want("Neovim", "tmux")
+    need_program()
+    with temporary() as room:
+        path = os.path.join(room, "editor.svg")
+        own = {**os.environ, "OB0": os.path.abspath(harness.BINARY)}
+        status, said = run_plainly([sys.executable, "-B", os.path.join(TOP, "tools", "screens.py"), path], own, TOP)
+        same(status, 0, said)
+        kept, now = text_of(PICTURES, "editor.svg"), text_of(path)
+    for scene in screens.SCENES:
+        holds(scene.shows in now and scene.shows in kept, f"{scene.shows} in both pictures")
+    if screens.version() in kept:
+        same(now, kept, "the picture (tools/screens.py makes it)")
+
+
+@test("pictures: letters of a terminal have its colours, and keep their places")
+def coloured() -> None:
+    line = "a\x1b[1;31mb\x1b[0m \x1b[38;5;196;48;2;1;2;3mc\x1b[4;58;2;255;0;0md\x1b[24;39;49me\x1b[7mf"
+    runs, last = screens.runs_of(line, screens.Style())
+    red = screens.colour_of(1)
+    wanted = [
+        ("a", screens.Style()),
+        ("b", screens.Style(colour=red, bold=True)),
+        (" ", screens.Style()),
+        ("c", screens.Style(colour="#ff0000", behind="#010203")),
+        ("d", screens.Style(colour="#ff0000", behind="#010203", under="#ff0000", line=True)),
+        ("e", screens.Style(under="#ff0000")),
+        ("f", screens.Style(under="#ff0000", turned=True)),
+    ]
+    same([(text, style) for style, text in runs], wanted, "the stretches of a line")
+    same(last, wanted[-1][1], "the style at its end")
+
+
+@test("pictures: the plots are drawn from the tables of docs/PERFORMANCE.md, which have each program, and say what they were counted with")
+def plotted() -> None:
+    page = text_of(PERFORMANCE)
+    for name, drawn in plots.drawn_of(page).items():
+        same(text_of(PICTURES, name), drawn, f"{name} (bench/report.py --plots draws it)")
+    holds("make bench" in page and not re.search(r"\d (ms|s|seconds)\b", page), "how the figures are made again, and no time of one day")
+    # (until they are counted the page has neither plots nor figures)
+    if not plots.drawn_of(page):
+        same(page.count("Not counted yet"), 2, "tables that aren't there")
+        return
+    same([name for name, _ in plots.rows_of(page, plots.RUNS)[1]], list(programs.PROGRAMS), "the programs that were counted")
+    ratios_fit(page)
+    for word in ("the commit is `", "the machine: x86-64 Linux", "valgrind: ", "Lua: ", "Python: "):
+        holds(word in page, f"the page says nothing of {word}")
+    commit = common.match_of(r"the commit is `(\w{40})`", page)[1]
+    if os.path.exists(os.path.join(TOP, ".git")):
+        known = subprocess.run(["git", "cat-file", "-e", f"{commit}^{{commit}}"], cwd=TOP, check=False, stderr=subprocess.DEVNULL)
+        same(known.returncode, 0, f"whether {commit} is a commit of this repository")
+
+
+def ratios_fit(page: str) -> None:
+    """Holds the ratios of the first table to its counts."""
+    heads, rows = plots.rows_of(page, plots.KEYS)
+    sizes = len([it for it in heads if it.endswith("bytes")])
+    for name, values in rows:
+        for scratch, value, ratio in zip(rows[0][1], values[:sizes], values[sizes:]):
+            holds(abs(scratch / value - ratio) <= 0.51 + ratio / 20, f"{name}: {scratch} is {ratio} times {value}")
+
+
+@test("pictures: a page with figures gets its two tables and a plot of each")
+def counted() -> None:
+    changes = {name: [10 ** (4 + at) // (number + 1) for at in range(3)] for number, name in enumerate((report.SCRATCH, *report.CHANGES, report.TYPED))}
+    runs = {name: [1000 + number, 4000, 90000] for number, name in enumerate(programs.PROGRAMS)}
+    page = text_of(PERFORMANCE)
+    for _ in range(2):
+        page = report.with_table(page, plots.KEYS, report.table_of_keys(changes))
+        page = report.with_table(page, plots.RUNS, report.table_of_runs(runs))
+        ratios_fit(page)
+        drawn = plots.drawn_of(page)
+        same(sorted(drawn), ["keys.svg", "runs.svg"], "the plots")
+        same([page.count(f"(pictures/{it})") for it in drawn], [1, 1], "the lines that show them")
+        for name, picture in drawn.items():
+            texts = {it.text for it in xml.etree.ElementTree.fromstring(picture).iter() if it.tag.endswith("}text")}
+            holds({*(changes if name == "keys.svg" else runs)} <= texts, f"the names on {name}: {texts}")
