@@ -48,7 +48,7 @@ use Rattle.ob0_world_editor.proofs.Hearing.{read_as}
 use Rattle.ob0_world_rules.specs.Edited.{Replacement, replacement_of, replacements}
 use Rattle.ob0_world_rules.specs.Asks.{Ask, rename, inline_here, inline_all, format, indent_read}
 use Rattle.ob0_world_rules.specs.Answers.{place_at, AnswersFor, IsAnswer, IsEmptyIfCorrect}
-use Rattle.ob0_world_rules.specs.ClientAndServer.{SentAsk, request_numbered, ToServer, notifies, requests, ToEditor, publishes, answers, after_message}
+use Rattle.ob0_world_rules.specs.ClientAndServer.{SentAsk, ToServer, notifies, requests, ToEditor, publishes, answers, after_message}
 use Rattle.ob0_world_rules.specs.Serving.{Publishes, Replies}
 use Rattle.ob0_world_rules.proofs.ModuleTexts.{well_typed_text, well_typed_module}
 use Rattle.ob0_world_rules.proofs.UriLaws.{get_put, uri_itself}

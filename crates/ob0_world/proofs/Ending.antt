@@ -2,7 +2,7 @@
 use Rattle.std.proofs.Common.{◌≡◌, ◌∙◌, ℕ, List, [], ◌∷◌, ◌++◌, append-nil, sym, ap, subst}
 use Rattle.std.specs.Prelude.{codes}
 use Rattle.serde_json.specs.Data.{Data, null}
-use Rattle.ob0_rpc.specs.Messages.{request, notice, meaning_of}
+use Rattle.ob0_rpc.specs.Messages.{meaning_of}
 use Rattle.ob0_rpc.specs.Shapes.{result_message}
 use Rattle.ob0_session_server.specs.declared.session.Phase.TheVariants.{Running, ShutDown, Ended}
 use Rattle.ob0_session_server.specs.Answers.{ServerState, SaysReply, Sends, Reaction, react, react_to_request, react_to_notification, answer_method, end_status, ends, Answers, AnswersInState, AnswersGoingOn, Conversation}

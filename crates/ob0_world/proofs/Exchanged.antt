@@ -1,6 +1,6 @@
 -- Proves that the model's editor and a session exchange messages as an editor that keeps ob0's rules does.
 use Rattle.std.proofs.Common.{◌≡◌, ◌∙◌, ℕ, zero, suc, ◌+◌, ◌≤◌, Bool, true, false, cond, arith, List, [], ◌∷◌, ◌++◌, map, length, append-nil, get_or, refl, sym, ap, subst, inl, inr}
-use Rattle.std.specs.Prelude.{◌⊎◌, ◌==◌, Option, Some, None, Ok, codes, option_and_then, slice_get}
+use Rattle.std.specs.Prelude.{◌==◌, Some, None, Ok, codes, option_and_then, slice_get}
 use Rattle.std.specs.Option.{option_to_list}
 use Rattle.serde_json.specs.Data.{Data, null, boolean, number, string, array, object, unsigned, negative, float}
 use Rattle.ob0_text.specs.declared.position_types.Position.{Position}
@@ -19,11 +19,11 @@ use Rattle.ob0_world_editor.specs.Understood.{understood, read_so}
 use Rattle.ob0_world_rules.specs.Asks.{Ask, rename, inline_here, inline_all, format}
 use Rattle.ob0_world_rules.specs.ClientAndServer.{SentAsk, Editor, request_numbered, ToServer, notifies, requests, ToEditor, publishes, answers, Applied, ClientAndServer, start}
 use Rattle.ob0_world_rules.specs.Editing.{Act, Done, stays, done_by, reads}
-use Rattle.ob0_world_rules.specs.Happens.{Event, does, serve, take_message, after_act, after_taking, ServerTakes, Happens}
+use Rattle.ob0_world_rules.specs.Happens.{Event, does, serve, take_message, after_taking, ServerTakes}
 use Rattle.ob0_world_rules.specs.EveryEditor.{Turn, editor_does, server_takes, editor_takes}
 use Rattle.ob0_world_rules.specs.MadeInOrder.{Announced, announced_in}
 use Rattle.ob0_world_rules.proofs.ModelEditor.{IsMove, act_may, knows_event}
-use Rattle.ob0_world.specs.Worlds.{Wire, Connection, Begins, TakesFirst, GetsFirst, MovesWire, AllSay, IsTied, ConnectionStep, ConnectionCourse}
+use Rattle.ob0_world.specs.Worlds.{Wire, Connection, TakesFirst, GetsFirst, MovesWire, AllSay, ConnectionStep, ConnectionCourse}
 use Rattle.ob0_world.specs.Exchanges.{SentId, number_id, sent_with, ask_with, NamesAsks, Exchange, BeginsExchange, IsActionsRequest, IsRequestFor, TakesActions, TakesEdits, SaysToSession, EachSays, read_by, reads_meaning, GetsOne, with_contents, ExchangeLeads, ACourseIsAnExchange}
 use Rattle.ob0_world.proofs.Conversing.{answered_once}
 use Rattle.std.proofs.lemmas.Bool.{eqb-true, eqb-false}

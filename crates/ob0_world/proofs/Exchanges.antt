@@ -17,34 +17,32 @@ use Rattle.ob0_text.specs.OpenDocuments.{OpenDocuments, Document, InStep, OutOfS
 use Rattle.ob0_rpc.specs.declared.incoming.RpcFault.{RpcFault}
 use Rattle.ob0_rpc.specs.Faults.{minus, error_code, error_text}
 use Rattle.ob0_rpc.specs.Messages.{ReadsContent, MessageMeaning, not_json, not_a_message, response, request, notice, meaning_of}
-use Rattle.ob0_rpc.specs.Notifications.{other, note_of}
+use Rattle.ob0_rpc.specs.Notifications.{other}
 use Rattle.ob0_rpc.specs.Requesting as asked
 use Rattle.ob0_rpc.specs.Requesting.{At, ClientRequest, request_by_method}
 use Rattle.ob0_rpc.specs.Shapes.{result_message, error_message}
 use Rattle.ob0_session_answers.specs.Questions.{NameQuestion, hover_asked, definition_asked, references_asked, renaming_asked}
 use Rattle.ob0_session_answers.specs.Actions.{RequestedActions}
 use Rattle.ob0_session_json.specs.Shapes.{edits_value, workspace_edit}
-use Rattle.ob0_session_server.specs.Answers as server
-use Rattle.ob0_session_server.specs.Answers.{ServerState, begins, Reply, SaysReply, Sends, Reaction, react, react_to_request, react_to_notification, apply_notification, answer_request, answer_method, answers_about, answers_name, requests_name, renames, offers_actions, lays_out, refuses, Answers, Conversation}
+use Rattle.ob0_session_server.specs.Answers.{ServerState, Reply, SaysReply, Sends, Reaction, react, react_to_request, react_to_notification, apply_notification, answer_request, answer_method, answers_about, answers_name, requests_name, renames, offers_actions, lays_out, refuses, Answers}
 use Rattle.ob0_world_editor.specs.Heard.{request_number, request_read, notification_read, message_read, heard}
 use Rattle.ob0_world_editor.specs.Understood.{understood, notice_understood, answer_read, value_read, read_so, answer_to, edits_for}
 use Rattle.ob0_world_editor.proofs.Hearing.{said, says_heard, read_as}
 use Rattle.ob0_world_rules.specs.Asks.{Ask, rename, inline_here, inline_all, format}
-use Rattle.ob0_world_rules.specs.ClientAndServer.{Open, SentAsk, Editor, request_numbered, open_at, ToServer, notifies, requests, ToEditor, publishes, answers, Made, after_message}
+use Rattle.ob0_world_rules.specs.ClientAndServer.{Open, SentAsk, Editor, request_numbered, ToServer, notifies, requests, ToEditor, publishes, answers, Made, after_message}
 use Rattle.ob0_world_rules.specs.Editing.{Done, reads, without_answer}
 use Rattle.ob0_world_rules.specs.Editors.{Revision, Move, to_open, to_revise, to_close, to_ask, to_apply, to_drop, revised, with_document, Revises, May}
 use Rattle.ob0_world_rules.specs.EveryEditor.{EditorAndServer, nothing_yet, without_others, notes_among, Turn, editor_does, editor_says, server_takes, editor_takes, MayHappen, MayLead, HoldsWithEditor}
 use Rattle.ob0_world_rules.specs.Answers.{Here, Everywhere, IsEmptyIfCorrect}
 use Rattle.ob0_world_rules.specs.Serving.{Publishes, Replies}
 use Rattle.ob0_world_rules.specs.Headline.{IsRight, last_publication}
-use Rattle.ob0_world_rules.specs.Mirror.{as_open}
 use Rattle.ob0_world_rules.specs.MadeInOrder.{Announced, AreMadeOf, versions_announced, named_in}
 use Rattle.ob0_world_rules.proofs.UriLaws.{mapped_choice}
 use Rattle.ob0_world_rules.proofs.EveryEditor.{with_every_editor}
 use Rattle.ob0_world.specs.Worlds.{Wire, TakesFirst}
 use Rattle.ob0_session_server.specs.declared.session.Phase.TheVariants.{Running}
 use Rattle.ob0_world.specs.Queues.{made_first}
-use Rattle.ob0_world.specs.Exchanges.{Id, id_read, same_id, SentId, sent_with, ask_with, NamesAsks, with_other, IsOtherId, Exchange, BeginsExchange, SaysToSession, IsRequestFor, IsQuestion, IsOtherMessage, IsOther, read_by, reads_meaning, GetsOne, with_contents, Exchanges, ExchangeLeads, EachSays, EachMeans, IsOfTheModel, EveryExchangeIsOfTheModel, Published, with_version, published_in, AreRightOf, last_published, notes_in, HoldsOfExchange, EveryExchangeHolds}
+use Rattle.ob0_world.specs.Exchanges.{Id, id_read, same_id, SentId, sent_with, ask_with, NamesAsks, with_other, IsOtherId, Exchange, BeginsExchange, SaysToSession, IsRequestFor, IsQuestion, IsOtherMessage, IsOther, read_by, reads_meaning, GetsOne, with_contents, Exchanges, ExchangeLeads, EachSays, EachMeans, EveryExchangeIsOfTheModel, Published, with_version, published_in, AreRightOf, last_published, notes_in, EveryExchangeHolds}
 use Rattle.ob0_world.proofs.Answering.{Served, note_answered, ask_answered, actions_answered, going_on, reacts_so}
 use Rattle.ob0_world.proofs.Waiting.{read_still}
 use Rattle.ob0_world.proofs.Ending.{ends_well}

@@ -1,6 +1,6 @@
 -- What the editor's moves make of client and server.
 use Rattle.std.proofs.Common.{◌≡◌, ◌<◌, ◌∙◌, ℕ, Bool, true, false, cond, List, [], ◌∷◌, ◌++◌, length, slice_index_or, Option, Some, None, Result, Ok, Err, refl, sym, ap, subst, arith}
-use Rattle.std.specs.Prelude.{⊤, All, Vec, map, IfOk, OnErr, OnOk, is_some, unwrap_or, option_and_then}
+use Rattle.std.specs.Prelude.{All, Vec, map, IfOk, OnErr, OnOk, is_some, unwrap_or, option_and_then}
 use Rattle.std.specs.Option.{option_to_list}
 use Rattle.std.specs.declared.alloc.Global.{Global}
 use Rattle.std.proofs.lemmas.List.{append-nil, map-append}

@@ -25,7 +25,7 @@ use Rattle.ob0_world_editor.specs.Understood.{understood, read_so}
 use Rattle.ob0_world_rules.specs.Asks.{Ask, rename, inline_here, inline_all, format}
 use Rattle.ob0_world_rules.specs.ClientAndServer.{Open, SentAsk, Editor, new_editor, open_at, ToServer, notifies, requests, ToEditor, publishes, answers, Applied, after_message}
 use Rattle.ob0_world_rules.specs.Editing.{Done, reads}
-use Rattle.ob0_world_rules.specs.Editors.{Move, May}
+use Rattle.ob0_world_rules.specs.Editors.{May}
 use Rattle.ob0_world_rules.specs.EveryEditor.{EditorAndServer, nothing_yet, Turn, editor_does, editor_says, server_takes, editor_takes, MayLead, HoldsWithEditor}
 use Rattle.ob0_world_rules.specs.Answers.{IsEmptyIfCorrect}
 use Rattle.ob0_world_rules.specs.Headline.{KeepsTheRun}

@@ -1,5 +1,5 @@
 -- Each stream has a list of contents: of a message's content, and of what comes after the message.
-use Rattle.std.proofs.Common.{◌≡◌, ◌∙◌, ◌<◌, ◌≤◌, ◌+◌, ℕ, zero, suc, List, [], ◌∷◌, ◌++◌, length, refl, ap, arith}
+use Rattle.std.proofs.Common.{◌≡◌, ◌∙◌, ◌<◌, ◌+◌, ℕ, zero, suc, List, [], ◌∷◌, ◌++◌, length, refl, ap, arith}
 use Rattle.std.proofs.lemmas.List.{length-append}
 use Rattle.ob0_frame.specs.Frames.{BeginsWith, Frames}
 use Rattle.ob0_frame.proofs.Heads.{end_takes_room}

@@ -12,7 +12,7 @@ use Rattle.ob0_world_editor.specs.declared.editor.Rewritten as rewritten
 use Rattle.ob0_world_rules.specs.Edited.{Replacement}
 use Rattle.ob0_world_rules.specs.Asks.{Ask}
 use Rattle.ob0_world_rules.specs.ClientAndServer.{Open, SentAsk, Answer, Editor, request_numbered, open_at}
-use Rattle.ob0_world_rules.specs.Editing.{open_document, change_document, close_document, ask_about, apply, Done, stays, opens, rewrites, closes, asks, kept_answer, all_but, without_answer, applies, done_by}
+use Rattle.ob0_world_rules.specs.Editing.{open_document, ask_about, apply, Done, stays, opens, asks, kept_answer, all_but, without_answer, applies, done_by}
 use Rattle.ob0_world_editor.specs.Code.{requested_of, answer_of}
 use Rattle.ob0_world_rules.specs.Edited.{replacements}
 use Rattle.ob0_world_editor.specs.Heard.{IsRequest, IsAsk}

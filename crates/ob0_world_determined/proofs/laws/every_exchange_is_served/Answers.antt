@@ -16,7 +16,7 @@ returns c unit begin now turns begins leads =
       ended = λ id shutdown exit is_shutdown is_exit sent end talked short put result written served. (
         holds.ends id shutdown exit is_shutdown is_exit sent end talked,
         c.a_conversation_is_served.ensures (now.wire.taken ++ shutdown ∷ exit ∷ []) ((now.wire.got ++ now.wire.to_editor) ++ sent) end short
-        (conversation_then start now.wire.taken (now.wire.got ++ now.wire.to_editor) now.wire.session (shutdown ∷ exit ∷ []) sent end holds.conversation talked) put result written served,
+            (conversation_then start now.wire.taken (now.wire.got ++ now.wire.to_editor) now.wire.session (shutdown ∷ exit ∷ []) sent end holds.conversation talked) put result written served,
       );
       in_part = λ taken put part are.
           part.frames
