@@ -2,9 +2,7 @@
 //! flushed.
 
 use crate::devices::{Count, Counter, Source};
-use ob0_session::{
-    DeviceFault, InputDevice, Noted, OutputDevice, ServeFault, serve, status_of,
-};
+use ob0_session::{DeviceFault, InputDevice, Noted, OutputDevice, ServeFault, serve, status_of};
 use std::alloc::Global;
 use std::process::Abort;
 
