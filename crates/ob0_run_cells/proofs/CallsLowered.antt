@@ -1,6 +1,7 @@
--- Calls of lowered procedures do what calls of the module's do, by induction on how many may be open.
--- What `SoundCalls` of `ob0_language_runs` gives by its `.. -run` lemmas hides the environments in between; where a
--- relation names them, take the equations from it and use the lemmas of constants, types and environments alone.
+-- Proves that calls of lowered procedures do what the module's calls do, by induction on how many may
+-- be open. The `.. -run` lemmas of `SoundCalls` of `ob0_language_runs` hide the environments in between.
+-- If a relation mentions these, take the equations from the relation, and use only the lemmas of
+-- constants, types and environments.
 use Rattle.std.proofs.lemmas.Bool.{ltb-true}
 use Rattle.std.proofs.lemmas.List.{length-replicate}
 use Rattle.std.proofs.Common.{◌≡◌, ℕ, zero, suc, ◌+◌, ◌^◌, ◌<◌, true, false, if◌then◌else◌, nat_lt, length-append, List, [], ◌∷◌, ◌++◌, drop, length, map, replicate, take, pos, slice_get, Some, option_and_then, unwrap_or, sym, refl, ap, ◌∙◌, subst, arith, append_assoc}
@@ -28,14 +29,14 @@ use Rattle.ob0_run_cells.proofs.PlacedEnvironments.{from-placed, inward-fits, sl
 use Rattle.ob0_run_cells.proofs.Places.{store-size}
 use Rattle.ob0_run_cells.proofs.Variables.{variables_are_dropped}
 
--- what holds without room, and of what is done with room, holds of an activation
+-- a relation that holds without room, and after an activation with room, holds after any activation
 pub with-cells : (P : execution.MachineProgress → Type 0) (n : ℕ) (next : execution.MachineState → execution.MachineProgress) (s : execution.MachineState) → P execution.no_room → (length s.cells + n < 2 ^ 64 → P (next record s { cells = s.cells ++ execution.zeros n }))
     → P (execution.with_cells n next s)
 with-cells P n next s without each =
     (elim (nat_lt (length s.cells + n) (2 ^ 64)) as (λ b. nat_lt (length s.cells + n) (2 ^ 64) ≡ b → P (if b then next record s { cells = s.cells ++ execution.zeros n } else execution.no_room))
     [ true ↦ λ e. each (ltb-true (length s.cells + n) (2 ^ 64) e) | false ↦ λ e. without ]) refl
 
--- what a call has of its own is dropped in both
+-- both drop the call's variables
 pub drop_variables-represents : (typing now others : StoreTyping) (old : Store) (base : ℕ) (p : execution.MachineProgress) (q : Progress) → now ≡ typing ++ others → StoreFits typing old → base ≡ length (all_cells old) → ProgressRepresents now p q → ProgressRepresents typing (execution.drop_variables base p) (drop_variables (length old) q)
 drop_variables-represents typing now others old base execution.no_room q e fits is h = tt
 drop_variables-represents typing now others old base (execution.running low) (running s) e fits is h =
@@ -53,7 +54,7 @@ module _ {N : Type 0} (table : RoutineTable N) where
   abbrev pub body_of : ℕ → ℕ → StoreTyping → Levels → Activation N → Body N
   body_of c t typing ls active = record { typing = typing; active = statement_meanings table.naming active; levels = ls; enters = call_freeing table.naming c t active; lowered_enters = execution.call table.routines c t }
 
-  -- what is known of calls of which c more may be open
+  -- the facts about calls if c more may be open
   abbrev pub CallsKnown : ℕ → ℕ → Type 0
   CallsKnown c t =
       (typing : StoreTyping) (ls : Levels) (checked : TypeEnvironment N) (placing : Placing N) (active : Activation N) → EnvironmentsFit table.naming typing checked active → PlacingFits table typing ls checked placing active

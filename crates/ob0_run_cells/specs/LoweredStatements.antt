@@ -57,8 +57,8 @@ pub record Target : Type 0 where
   pub procedure : ℕ
   pub up : ℕ
 
--- what doesn't change while the statements of a body run: the types of the store, the meanings of
--- names, the activations that lowered code sees, and the effects of calls
+-- the facts that stay true while the statements of a body run: the types of the store, the meanings
+-- of names, the activations that lowered code sees, and the effects of calls
 pub record Body (N : Type 0) : Type 0 where
   pub typing : StoreTyping
   pub active : Meanings N Place (List Mode)

@@ -59,7 +59,7 @@ pub activates_none : {post : Post} {m : Machine} {o : Option Routine} (u : Unit 
 unfolding activate
 activates_none {m = m} u t ls e = record { as_defined = λ enters p. ap (λ o. activate enters t ls o (state_of m)) e }
 
--- there is room for cells that are there
+-- existing cells have room
 pub has_room : (cells more : List ℤ) (n : ℕ) → more ≡ cells ++ zeros n → length more < 2 ^ 64 → nat_lt (length cells + n) (2 ^ 64) ≡ true
 has_room cells more n same few =
     let long : length more ≡ length cells + n = ap length same ∙ (length-append cells (zeros n) ∙ ap (λ k. length cells + k) (length-replicate n (pos 0))) in

@@ -1,4 +1,4 @@
--- Numbers that ascend; numbers of which all are before one, or none is.
+-- Lists of ascending numbers, of numbers below a limit, and of numbers at or above it.
 use Rattle.std.proofs.Common.{◌≡◌, ◌<◌, ◌≤◌, ℕ, ◌+◌, List, [], ◌∷◌, ◌++◌, arith}
 use Rattle.std.proofs.lemmas.List.{map-append}
 use Rattle.ob0_tree.specs.declared.tree.Role.{Role}
@@ -20,7 +20,7 @@ ascend_past from (x ∷ xs) y ys to h = ascend_past (x + 1) xs y ys to h.1
 pub leaves_append : (xs ys : List (Role × ℕ)) → names_only (xs ++ ys) ≡ names_only xs ++ names_only ys
 leaves_append xs ys = map-append (λ (x : Role × ℕ). x.1) xs ys
 
--- ---- all are before a number
+-- ---- numbers below a limit
 
 abbrev pub AllBelow : ℕ → List ℕ → Type 0
 AllBelow n [] = Unit {0}
@@ -38,7 +38,7 @@ pub below_more : (n m : ℕ) (xs : List ℕ) → n ≤ m → AllBelow n xs → A
 below_more n m [] le h = tt
 below_more n m (x ∷ xs) le h = (omega (arith, le, h.0), below_more n m xs le h.1)
 
--- those before one of some that ascend
+-- the numbers before one in an ascending list are below it
 pub before_one : (low : ℕ) (xs : List ℕ) (y : ℕ) (ys : List ℕ) (high : ℕ) → Ascending low (xs ++ (y ∷ ys)) high → AllBelow y xs
 before_one low [] y ys high h = tt
 before_one low (x ∷ xs) y ys high h =
@@ -51,7 +51,7 @@ ascending_below low (x ∷ xs) high h =
     let later = ascending_below (x + 1) xs high h.1 in
     (omega (arith, h.0, later.0), (omega (arith, later.0), later.1))
 
--- ---- none is before a number
+-- ---- numbers at or above a limit
 
 abbrev pub AllFrom : ℕ → List ℕ → Type 0
 AllFrom n [] = Unit {0}

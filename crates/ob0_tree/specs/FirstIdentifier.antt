@@ -1,15 +1,15 @@
--- The first identifier of a part of a module.
--- Rule: none; for contracts: where the statements of a block begin.
+-- The first identifier in a part of a module.
+-- Rule: none; for contracts on where the statements of a block begin.
 use Rattle.std.specs.Prelude.{ℕ, List, [], ◌∷◌, Option, Some, None}
 use Rattle.ob0_tree.specs.declared.tree.Role.{Role}
 use Rattle.ob0_tree.specs.declared.tree.Role.TheVariants as role
 use Rattle.ob0_tree.specs.Tree.{Sort, Tree, identifiers}
 
--- the first of some identifiers
+-- the token of the first identifier in a list
 abbrev pub first_of : List (Role × ℕ) → Option ℕ
 first_of [] = None
 first_of (x ∷ xs) = Some x.1
 
--- the first identifier of a part
+-- the token of the first identifier in a part of a module
 abbrev pub first_identifier : {s : Sort} → Tree ℕ s → Option ℕ
 first_identifier t = first_of (identifiers role.Declaring t)
