@@ -1,9 +1,7 @@
 //! Conversations over devices that fail, and a writer that passes on what it is given only where it is flushed.
 
 use crate::devices::{Count, Counter, Source};
-use ob0_session::{
-    DeviceFault, InputDevice, Noted, OutputDevice, ServeFault, serve, status_of,
-};
+use ob0_session::{DeviceFault, InputDevice, Noted, OutputDevice, ServeFault, serve, status_of};
 use std::alloc::Global;
 use std::process::Abort;
 
