@@ -40,9 +40,13 @@ const RENAME_WORD: CommandLine<'static> = CommandLine::Rename {
 /// A command line, the bytes of its file and the input.
 type Call = (CommandLine<'static>, &'static [u8], &'static [u8]);
 
-/// The status of a call if `flushes` flushes succeed, and how many bytes are passed on.
+/// Returns the status of a call if `flushes` flushes succeed, and how many bytes are passed on. A command line without a
+/// file isn't performed.
 fn outcome_of(alloc: Global, call: Call, flushes: u32) -> (u8, usize) {
     let (line, file, bytes) = call;
+    let Some(_path) = line.file() else {
+        return (2, 0);
+    };
     let (mut printed, mut reported) = (Count::new(512, flushes), Count::new(512, 1));
     let mut out = TrackedWriter::new(Counter {
         count: &mut printed,
