@@ -82,8 +82,9 @@ class Talk:
         self.sends(request(ident, method, params))
         return ident
 
-    def answers(self, ident: Any, result: Any) -> None:
+    def answers(self, ident: Any, result: Any) -> Talk:
         self.watcher.take("server", frame({"id": ident, "jsonrpc": "2.0", "result": result}), self.now)
+        return self
 
     def is_answered(self, edits: Any, method: str = RENAME, ident: Optional[Any] = None) -> Talk:
         """A request, and an answer with edits or with an action for each list of edits."""
