@@ -239,7 +239,7 @@ BROKEN: Dict[str, Tuple[str, Fault]] = {
     "an edit after an open document was opened again": ("late-edit", lambda talk: reopened(talk, "\n" + TEXT, lower(IN_TURN))),
     "an edit in another text of the same version": (
         "late-edit",
-        lambda talk: (talk.is_answered(replacements("tot")), talk.changes([inserted(place(0, 0), "\n")], 1), talk.changes(lower(IN_TURN), 1)),
+        lambda talk: talk.is_answered(replacements("tot")).changes([inserted(place(0, 0), "\n")], 1).changes(lower(IN_TURN), 1),
     ),
     "half an edit": ("half-edit", renamed(IN_TURN[:2], *[TYPED] * 3)),
     "half an edit, and what is typed next": ("half-edit", renamed([*IN_TURN[:1], *TYPED * 9])),
@@ -313,7 +313,7 @@ ALLOWED: Dict[str, Fault] = {
     ),
     "an edit after a reopen with the same text": lambda talk: reopened(talk, TEXT, IN_TURN, did_close()),
     "an edit after an open document was opened again with its text": lambda talk: reopened(talk, TEXT, IN_TURN),
-    "an opening with the text that a dropped edit leaves": lambda talk: (talk.is_answered(replacements("tot")), talk.sends(did_open(RENAMED))),
+    "an opening with the text that a dropped edit leaves": lambda talk: talk.is_answered(replacements("tot")).sends(did_open(RENAMED)),
     "the same after another change": lambda talk: (
         talk.is_answered(replacements("tot")).changes([inserted(place(0, 0), "\n")]).sends(did_close(), did_open("\n" + RENAMED)),
     ),
@@ -367,7 +367,8 @@ def capabilities() -> None:
         talk.is_answered([edits] if method == ACTION else edits, method)
         same(talk.found(False), set(), f"{method}, by a client that announces {client} and drops the answer")
         talk.changes(IN_TURN)
-        same((talk.found(True), talk.found(False)), (set(), {"capabilities"} if is_noted else set()), f"{method}, by one that announces {client}")
+        notes = {"capabilities"} if is_noted else set()
+        same((talk.found(True), talk.found(False)), (set(), notes), f"{method}, by a client that announces {client}")
 
 
 @test("watch: an opening before the request `initialize` is found, and one before its answer is noted, as a request is")
