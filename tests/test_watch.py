@@ -54,6 +54,7 @@ class Talk:
         self.watcher, self.version, self.idents = WATCH.Watcher(file_of), 1, 0
         self.uri, self.now = uri, 1000.0
         self.sends(harness.initialize(0, **{**EDITS, **capabilities}))
+        self.answers(0, {"capabilities": {}})
         self.sends(notice("initialized", {}))
         if text:
             self.sends(did_open(text, uri))
@@ -69,23 +70,25 @@ class Talk:
         self.version = self.version + 1 if version is None else version
         return self.sends(did_change(changes, self.uri, self.version))
 
-    def asks(self, method: str = RENAME, ident: Optional[int] = None) -> int:
-        self.idents = self.idents + 1 if ident is None else ident
+    def asks(self, method: str = RENAME, ident: Optional[Any] = None) -> Any:
+        self.idents += 1
+        ident = self.idents if ident is None else ident
         document = {"uri": self.uri}
         params: Message = {"textDocument": document, "position": place(1, 4), "newName": "tot"}
         if method == FORMAT:
             params = {"textDocument": document, "options": {"tabSize": 2, "insertSpaces": True}}
         if method == ACTION:
             params = {"textDocument": document, "range": extent("1:4-1:4"), "context": {"diagnostics": []}}
-        self.sends(request(self.idents, method, params))
-        return self.idents
+        self.sends(request(ident, method, params))
+        return ident
 
-    def answers(self, ident: int, result: Any) -> None:
+    def answers(self, ident: Any, result: Any) -> Talk:
         self.watcher.take("server", frame({"id": ident, "jsonrpc": "2.0", "result": result}), self.now)
+        return self
 
-    def is_answered(self, edits: Any, method: str = RENAME) -> Talk:
+    def is_answered(self, edits: Any, method: str = RENAME, ident: Optional[Any] = None) -> Talk:
         """A request, and an answer with edits or with an action for each list of edits."""
-        self.answers(self.asks(method), self.result(edits, method))
+        self.answers(self.asks(method, ident), self.result(edits, method))
         return self
 
     def result(self, edits: Any, method: str = RENAME) -> Any:
@@ -130,6 +133,8 @@ def clean() -> None:
             talk.changes([inserted(place(0, 0), " ")])
             counts = talk.watcher.watched
             same((talk.found(True), counts["half-edit"], counts["late-edit"]), (set(), 1, 0), f"a rename that is told {how}")
+            is_apart = count == 1 and len(notifications) > 1
+            same(talk.found(False), {"told-apart"} if is_apart else set(), f"the notes of a rename that is told {how}")
 
 
 @test("watch: what a user types, undoes and makes again is no finding, with answers that were dropped before")
@@ -177,11 +182,17 @@ def lower(edits: Edits) -> Edits:
     return found
 
 
-def reopened(talk: Talk, text: str, changes: Edits) -> None:
+def reopened(talk: Talk, text: str, changes: Edits, *between: harness.Content) -> None:
+    """The document is opened again with this text, after these messages, before an answer to a rename comes and these changes are told."""
     ident = talk.asks()
-    talk.sends(did_close(), did_open(text))
+    talk.sends(*between, did_open(text))
     talk.answers(ident, talk.result(replacements("tot")))
     talk.changes(changes)
+
+
+def made_as(ident: Any) -> Fault:
+    """A rename with this id, whose edit is made."""
+    return lambda talk: talk.is_answered(replacements("tot"), ident=ident).changes(IN_TURN)
 
 
 def told(*contents: harness.Content) -> Fault:
@@ -212,8 +223,6 @@ EMOJI = "MODULE M;\nCONST k = 7;\nBEGIN (* \U0001f600 *) Write(k) END M.\n"
 TYPED = [inserted(place(0, 0), " ")]
 # what is done in a conversation, and the rule that is broken so
 BROKEN: Dict[str, Tuple[str, Fault]] = {
-    "a version that falls": ("versions", lambda talk: [talk.changes(TYPED, it) for it in (5, 4)]),
-    "a version that comes again once an edit of it was asked for": ("versions", lambda talk: (talk.asks(), talk.changes(TYPED, 1))),
     "a late edit at its old places": ("late-edit", lambda talk: late(talk, IN_TURN)),
     "a late edit that moves along": ("late-edit", lambda talk: late(talk, lower(IN_TURN))),
     "a late edit that moves along, one change at a time": ("late-edit", lambda talk: late(talk, [[it] for it in lower(TAKEN_OUT)])),
@@ -225,8 +234,13 @@ BROKEN: Dict[str, Tuple[str, Fault]] = {
     "a late layout": ("late-edit", lambda talk: late(talk, [inserted(place(2, 0), "  ")], FORMAT, [inserted(place(1, 0), "  ")])),
     "a late inlining": ("late-edit", lambda talk: late(talk, lower(IN_TURN[:1]), ACTION, [IN_TURN, IN_TURN[:1]])),
     "an edit that is made with what was typed before it": ("late-edit", renamed([*TYPED, *IN_TURN])),
-    "an edit after a reopen": ("reopened-edit", lambda talk: reopened(talk, "\n" + TEXT, lower(IN_TURN))),
-    "an edit after a reopen, at its old places": ("reopened-edit", lambda talk: reopened(talk, "\n" + TEXT, IN_TURN)),
+    "an edit after a reopen with another text": ("late-edit", lambda talk: reopened(talk, "\n" + TEXT, lower(IN_TURN), did_close())),
+    "an edit after a reopen, at its old places": ("late-edit", lambda talk: reopened(talk, "\n" + TEXT, IN_TURN, did_close())),
+    "an edit after an open document was opened again": ("late-edit", lambda talk: reopened(talk, "\n" + TEXT, lower(IN_TURN))),
+    "an edit in another text of the same version": (
+        "late-edit",
+        lambda talk: talk.is_answered(replacements("tot")).changes([inserted(place(0, 0), "\n")], 1).changes(lower(IN_TURN), 1),
+    ),
     "half an edit": ("half-edit", renamed(IN_TURN[:2], *[TYPED] * 3)),
     "half an edit, and what is typed next": ("half-edit", renamed([*IN_TURN[:1], *TYPED * 9])),
     "half an edit as the whole text": ("half-edit", renamed(harness.edited(TEXT, PLACES[1:], "tot"), *[TYPED] * 3)),
@@ -248,34 +262,74 @@ BROKEN: Dict[str, Tuple[str, Fault]] = {
     "a change without a version": ("readable", told(did_change([], version=None))),
     "a document without a uri": ("readable", told(notice("textDocument/didClose", {"textDocument": {}}))),
     "a head without a length": ("readable", lambda talk: talk.watcher.take("editor", b"Content-Type: x\r\n\r\n", 0.0)),
-    "an id that waits for its answer": ("numbers", lambda talk: (talk.asks(), talk.sends(request(1, "textDocument/hover")))),
+    "a change as a request": ("readable", told({**did_change("x"), "id": 1})),
+    "an id of a request for edits that waits": ("ids", lambda talk: (talk.asks(), talk.sends(request(1, "textDocument/hover")))),
+    "a request for edits with an id that waits": ("ids", lambda talk: (talk.sends({**HOVER, "id": 1}), talk.asks())),
+    "a change after `shutdown`": ("end", told(request(1, "shutdown"), did_change("x"))),
+    "an opening after `exit`": ("end", told(request(1, "shutdown"), EXIT, did_open("x"))),
 }
-# and what is no fault, but isn't covered by the proofs
+# and what is harmless by itself
 NOTED: Dict[str, Tuple[str, Fault]] = {
     "a range past the end of a line": ("ranges", changed([{"range": extent("0:99-1:0"), "text": "\n"}])),
     "a range past the end of the text": ("ranges", changed([inserted(place(99, 0), "x")])),
     "a range that ends before it starts": ("ranges", changed([{"range": extent("1:0-0:3"), "text": "\n"}])),
-    "a document that is opened twice": ("open", told(did_open(TEXT))),
-    "a close of what isn't open": ("open", told(did_close("file:///other"))),
-    "a question about what isn't open": ("open", told(did_close(), HOVER)),
-    "a version that comes again": ("versions", lambda talk: talk.changes(TYPED, 1)),
-    "a version that comes again with the same text": ("versions", lambda talk: (talk.asks(), talk.changes([], 1))),
-    "a version that an edit was asked for in another opening": (
-        "versions",
-        lambda talk: (talk.asks(), talk.sends(did_close(), did_open(TEXT)), talk.changes(TYPED, 1)),
+    "an inlining in a range that ends before it starts": (
+        "ranges",
+        lambda talk: (
+            talk.sends(request(1, ACTION, {"textDocument": {"uri": URI}, "range": extent("1:4-1:3"), "context": {"diagnostics": []}})),
+            talk.answers(1, talk.result([replacements("tot")], ACTION)),
+            talk.changes(IN_TURN),
+        ),
     ),
-    "a version below zero": ("versions", told(did_open("", "file:///other", -1))),
-    "params that can't be read": ("readable", told(request(1, RENAME, {"textDocument": {"uri": URI}}))),
+    "an opening with a version below zero": ("versions", told(did_open("", "file:///other", -1))),
+    "a change with a version below zero": ("versions", lambda talk: talk.changes(TYPED, -1)),
     "an answer without a result": ("readable", told('{"id":1}')),
     "an end inside a message": ("readable", lambda talk: [talk.watcher.take("editor", it, 0.0) for it in (b"Content-L", b"")]),
     "an end before a content": (
         "readable",
         lambda talk: [talk.watcher.take("editor", it, 0.0) for it in (b"Content-Length: 1\r\n\r\n", b"")],
     ),
-    "a reopen with the same text": ("reopened-edit", lambda talk: reopened(talk, TEXT, IN_TURN)),
-    "a rename with a text as its id": ("numbers", told(request("a", RENAME, {**HOVER["params"], "newName": "x"}))),
-    "ids that skip numbers": ("numbers", lambda talk: [talk.asks(ident=at) for at in (2, 6)]),
-    "ids that fall": ("numbers", lambda talk: [talk.asks(ident=at) for at in (8, 6)]),
+    "a change of another document between those of an edit": (
+        "told-apart",
+        lambda talk: (
+            talk.sends(did_open("", "file:///other")).is_answered(replacements("tot")),
+            [talk.changes([it]).sends(did_change("x", "file:///other")) for it in IN_TURN],
+        ),
+    ),
+    "a second `initialize`": ("start", lambda talk: talk.sends(harness.initialize(1))),
+    "a question after `shutdown`": ("end", told(request(1, "shutdown"), HOVER)),
+    "a close after `shutdown`": ("end", told(request(1, "shutdown"), did_close())),
+    "an id below zero": ("ids", made_as(-1)),
+    "an id that a question had": ("ids", lambda talk: (talk.sends(HOVER), talk.answers("h", None), made_as("h")(talk))),
+    "a question with the id of an edit": ("ids", lambda talk: (made_as("h")(talk), talk.sends(HOVER))),
+}
+# and what the rules allow
+ALLOWED: Dict[str, Fault] = {
+    "versions that fall, come again and are large": lambda talk: [talk.changes(TYPED, it) for it in (5, 4, 4, 0, 2**63 - 1)],
+    "an edit of a version that comes again": lambda talk: (talk.is_answered(replacements("tot")), talk.changes(IN_TURN, 1)),
+    "an edit in a text that is as it was, in a later version": lambda talk: (
+        talk.is_answered(replacements("tot")),
+        [talk.changes(it) for it in (TYPED, [{"range": extent("0:0-0:1"), "text": ""}], IN_TURN)],
+    ),
+    "an edit after a reopen with the same text": lambda talk: reopened(talk, TEXT, IN_TURN, did_close()),
+    "an edit after an open document was opened again with its text": lambda talk: reopened(talk, TEXT, IN_TURN),
+    "an opening with the text that a dropped edit leaves": lambda talk: talk.is_answered(replacements("tot")).sends(did_open(RENAMED)),
+    "the same after another change": lambda talk: (
+        talk.is_answered(replacements("tot")).changes([inserted(place(0, 0), "\n")]).sends(did_close(), did_open("\n" + RENAMED)),
+    ),
+    "a close of what isn't open": told(did_close("file:///other")),
+    "a question about what isn't open": told(did_close(), HOVER),
+    "a rename of what isn't open": lambda talk: talk.sends(did_close()).asks(),
+    "params that can't be read": told(request(1, RENAME, {"textDocument": {"uri": URI}})),
+    "a method that the server doesn't know": told(request(1, "textDocument/completion", {}), notice("$/setTrace", {"value": "off"})),
+    "ids that skip numbers, fall, are large and are texts": lambda talk: [
+        talk.is_answered([TYPED[0], inserted(place(1, 0), "x")], FORMAT, ident).changes([TYPED[0], inserted(place(1, 0), "x")])
+        for ident in (8, 6, 0, 2**64 - 1, "", "8")
+    ],
+    "questions with one id": told(HOVER, HOVER),
+    "an id again of a request whose edit is dropped": lambda talk: [talk.is_answered(replacements("tot"), ident=1) for _ in range(2)],
+    "`shutdown` and `exit`": told(request(1, "shutdown"), EXIT),
+    "`exit`": told(EXIT),
 }
 
 
@@ -291,15 +345,42 @@ def planted() -> None:
         same(found(fault, True), {rule}, f"the broken rules of {what}")
     for what, (rule, fault) in NOTED.items():
         same((found(fault, True), found(fault, False)), (set(), {rule}), f"the broken rules and the notes of {what}")
+    for what, fault in ALLOWED.items():
+        same((found(fault, True), found(fault, False)), (set(), set()), f"the broken rules and the notes of {what}")
 
 
-@test("watch: what a client doesn't announce is noted, and an opening before the request `initialize` is found")
+NO_EDITS: Message = {"workspace": {}, "textDocument": {}}
+# what a client announces, whose edit it makes, and whether that is noted
+ANNOUNCED: List[Tuple[Message, str, bool]] = [
+    *((EDITS, it, False) for it in (RENAME, ACTION, FORMAT)),
+    *(({**NO_EDITS, "workspace": EDITS["workspace"]}, it, it == ACTION) for it in (RENAME, ACTION, FORMAT)),
+    *(({**NO_EDITS, "textDocument": LITERALS}, it, it != FORMAT) for it in (RENAME, ACTION, FORMAT)),
+    *((NO_EDITS, it, it != FORMAT) for it in (RENAME, ACTION, FORMAT)),
+]
+
+
+@test("watch: what a client doesn't announce is noted with the edits that need it")
+def capabilities() -> None:
+    for client, method, is_noted in ANNOUNCED:
+        talk = Talk(**client)
+        edits = replacements("tot")
+        talk.is_answered([edits] if method == ACTION else edits, method)
+        same(talk.found(False), set(), f"{method}, by a client that announces {client} and drops the answer")
+        talk.changes(IN_TURN)
+        notes = {"capabilities"} if is_noted else set()
+        same((talk.found(True), talk.found(False)), (set(), notes), f"{method}, by a client that announces {client}")
+
+
+@test("watch: an opening before the request `initialize` is found, and one before its answer is noted, as a request is")
 def beginnings() -> None:
-    talk = Talk(workspace={}, textDocument={})
-    same((talk.found(True), [it.rule for it in talk.watcher.findings]), (set(), ["capabilities"] * 2), "a client that announces nothing")
     watcher = WATCH.Watcher()
-    watcher.take("editor", frame(did_open(TEXT)), 0.0)
-    same([(it.rule, it.is_broken, it.number, it.method) for it in watcher.findings], [("start", True, 1, "textDocument/didOpen")])
+    watcher.take("editor", frame(did_close()) + frame(HOVER) + frame(did_open(TEXT)), 0.0)
+    same([(it.rule, it.is_broken, it.number, it.method) for it in watcher.findings], [("start", True, 3, "textDocument/didOpen")])
+    for early, is_noted in ((did_open(TEXT), True), (HOVER, True), (notice("initialized", {}), False)):
+        watcher = WATCH.Watcher()
+        watcher.take("editor", frame(harness.initialize(1)) + frame(early), 0.0)
+        watcher.take("server", frame({"id": 1, "result": {}}), 0.0)
+        same([(it.rule, it.is_broken) for it in watcher.findings], [("start", False)] * is_noted, f"{early} before the answer")
 
 
 @test("watch: positions are counted in the unit that was agreed on, and edits with CR LF for LF are noted")
@@ -380,7 +461,7 @@ def at_once() -> None:
 @test("watch: neither a fault of the watcher nor a report that can't be written touches the conversation")
 def robust() -> None:
     with temporary() as room:
-        fault = "import watched; it = watched.load(); it.Watcher.told = 0; import sys; it.end_as(it.main(sys.argv[1:]))"
+        fault = "import watched; it = watched.load(); it.Watcher.opened = 0; import sys; it.end_as(it.main(sys.argv[1:]))"
         status, out, err, report = watch(room, "cat", given=INPUT * 9, first=["-c", f"import sys; sys.path[:0] = {sys.path!r}; {fault}"])
         same((status, out, err), (0, INPUT * 9, b""), "with a fault of the watcher")
         same(report.splitlines()[-1], "It stopped watching, by a fault of its own: TypeError: 'int' object is not callable")
