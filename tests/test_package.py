@@ -346,6 +346,8 @@ def by_tab(shell: str) -> None:
             screen.shows(b"1:6: Undeclared" + reads_keys, f"the line that was completed in {shell}")
             screen.keys(b"ob0 run < N\t")
             screen.shows(rb"ew\.mod", f"Tab after `ob0 run < N` in {shell}")
+            screen.keys(b"\x15ob0-format --ch\t")
+            screen.shows(b"eck", f"Tab after `ob0-format --ch` in {shell}")
 
 
 for each in SHELLS:

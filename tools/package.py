@@ -72,8 +72,11 @@ COPIED = {
     # (small images leave out share/doc, and the script that marks answers works without it)
     "examples/exercises": EXERCISES,
 }
-# a second name for a file or a folder of the tree (each file of EXERCISES has one below DOC)
+# other names of a file or a folder of the tree (each file of EXERCISES has one below DOC); bash and fish load completions by the
+# command's name
 LINKED = {
+    **{f"share/bash-completion/completions/{it}": "share/bash-completion/completions/ob0" for it in ("ob0-format", "ob0-watch")},
+    **{f"share/fish/vendor_completions.d/{it}.fish": "share/fish/vendor_completions.d/ob0.fish" for it in ("ob0-format", "ob0-watch")},
     f"{NVIM}/ob0-vim": VIM,
     "share/zsh/site-functions/_ob0": "share/zsh/vendor-completions/_ob0",
     "share/gtksourceview-4/language-specs/oberon0.lang": "share/gtksourceview-5/language-specs/oberon0.lang",
