@@ -7,6 +7,7 @@ import functools
 import json
 import os
 import re
+import shutil
 import xml.etree.ElementTree
 from collections.abc import Callable
 
@@ -380,6 +381,39 @@ def help_in_vim() -> None:
 def help_in_neovim() -> None:
     want("Neovim")
     helped("neovim", ["nvim", "-n", "-i", "NONE"], "Neovim")
+
+
+def by_runtimepath(words: list[str], folders: list[str], name: str) -> None:
+    """What Vim or Neovim does with a module and `:help ob0`, if folders like those of the repository are in 'runtimepath'."""
+    with temporary() as room:
+        # (without the program: an editor that ends at once would end the server while it starts)
+        kept = {key: value for key, value in os.environ.items() if not key.startswith("XDG_")}
+        own, report = {**kept, "HOME": room, "TERM": "xterm"}, os.path.join(room, "report")
+        copies = [os.path.join(room, "a copy", it) for it in folders]
+        for it, copy in zip(folders, copies):
+            shutil.copytree(os.path.join(TOP, "editors", it), copy)
+        added = "".join(f"set runtimepath+={it}\n".replace("a copy", "a\\ copy") for it in copies)
+        write(os.path.join(room, "rc.vim"), f"set nocompatible\n{added}filetype plugin indent on\nsyntax on\n")
+        write(os.path.join(room, "new.mod"), SAMPLE)
+        found = "[&filetype, &shiftwidth, exists(':Ob0Run'), exists('b:current_syntax'), exists('g:loaded_ob0')]"
+        steps = ["helptags ALL", "edit new.mod", f"let r = {found}", "help ob0", "call add(r, expand('%:t'))"]
+        write(os.path.join(room, "steps.vim"), "\n".join([*steps, f"call writefile([json_encode(r)], '{report}')", "qall!", ""]))
+        rest = ["-n", "-i", "NONE", "-u", os.path.join(room, "rc.vim"), "-S", os.path.join(room, "steps.vim")]
+        status, drawn = run_in_terminal([*words, *rest], own, room)
+        holds(os.path.exists(report), f"{name} said nothing, and ended with {status}: {drawn[-500:]!r}")
+        same(json.loads(text_of(report)), ["ob0", 2, 2, 1, len(folders) - 1, "ob0.txt"], f"a module in {name}")
+
+
+@test("syntax files: Vim takes its files from a folder in 'runtimepath', where plugin managers put it")
+def managed_in_vim() -> None:
+    want("Vim")
+    by_runtimepath(["vim.nox"], ["vim"], "Vim")
+
+
+@test("syntax files: Neovim takes its files from folders in 'runtimepath', where plugin managers put them")
+def managed_in_neovim() -> None:
+    want("Neovim")
+    by_runtimepath(["nvim"], ["vim", "neovim"], "Neovim")
 
 
 @test("syntax files: the lines that Vim's help page has for settings are those of the editors' pages")
