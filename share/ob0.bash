@@ -1,4 +1,11 @@
-# Completion of ob0 for bash.
+# Completion of ob0, ob0-format and ob0-watch for bash.
+
+# Completes the word at the cursor to the modules and folders that it can become.
+_ob0_modules() {
+    compopt -o filenames 2>/dev/null
+    mapfile -t COMPREPLY < <(compgen -f -X '!*.@(ob0|mod|Mod)' -- "$1"; compgen -d -- "$1")
+}
+
 _ob0() {
     local word=${COMP_WORDS[COMP_CWORD]} before=${COMP_WORDS[COMP_CWORD - 1]} command="" at place=0
     COMPREPLY=()
@@ -14,8 +21,7 @@ _ob0() {
         *[\<\>]) return ;;
     esac
     if [[ $command =~ ^(check|run|rename)$ && $place == 0 && $word != -* ]]; then
-        compopt -o filenames 2>/dev/null
-        mapfile -t COMPREPLY < <(compgen -f -X '!*.@(ob0|mod|Mod)' -- "$word"; compgen -d -- "$word")
+        _ob0_modules "$word"
         return
     fi
     compopt +o bashdefault +o default 2>/dev/null
@@ -34,5 +40,43 @@ _ob0() {
         mapfile -t COMPREPLY < <(compgen -W "serve check run rename" -- "$word")
     fi
 }
+
+_ob0_format() {
+    local word=${COMP_WORDS[COMP_CWORD]}
+    COMPREPLY=()
+    case ${COMP_WORDS[COMP_CWORD - 1]} in
+        *[\<\>]) return ;;
+    esac
+    if [[ $word == -* ]]; then
+        mapfile -t COMPREPLY < <(compgen -W "--check -h --help -V --version" -- "$word")
+    else
+        _ob0_modules "$word"
+    fi
+}
+
+_ob0_watch() {
+    local word=${COMP_WORDS[COMP_CWORD]} first=1
+    COMPREPLY=()
+    if [[ ${COMP_WORDS[1]} == --report && $COMP_CWORD -gt 1 ]]; then
+        first=3
+    fi
+    if ((COMP_CWORD < first)); then
+        return # (the report's file is completed as usual)
+    elif ((COMP_CWORD == first)) && [[ $word == -* ]]; then
+        local options="--"
+        ((first == 1)) && options="-- --report -h --help"
+        mapfile -t COMPREPLY < <(compgen -W "$options" -- "$word")
+    elif ((COMP_CWORD > first)) && [[ ${COMP_WORDS[first]} == -- ]]; then
+        # (the words of another server are completed as usual)
+        ((COMP_CWORD == first + 1)) && mapfile -t COMPREPLY < <(compgen -c -- "$word")
+    else
+        COMP_WORDS=(ob0 "${COMP_WORDS[@]:first}")
+        COMP_CWORD=$((COMP_CWORD - first + 1))
+        _ob0
+    fi
+}
+
 shopt -s extglob
 complete -o bashdefault -o default -F _ob0 ob0
+complete -o bashdefault -o default -F _ob0_format ob0-format
+complete -o bashdefault -o default -F _ob0_watch ob0-watch

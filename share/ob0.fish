@@ -1,4 +1,4 @@
-# Completion of ob0 for fish.
+# Completion of ob0, ob0-format and ob0-watch for fish.
 
 # The modules and folders that the word at the cursor can become: fish's own completion of files knows ~, variables and quotes.
 function __ob0_modules
@@ -36,3 +36,43 @@ complete -c ob0 -n '__fish_seen_subcommand_from serve' -l stdio -d 'Changes noth
 complete -c ob0 -n '__fish_seen_subcommand_from serve' -l clientProcessId -x -d 'Changes nothing: the client is not watched'
 complete -c ob0 -s h -l help -d 'Print help'
 complete -c ob0 -n __fish_use_subcommand -s V -l version -d 'Print the version'
+
+complete -c ob0-format -f
+complete -c ob0-format -a '(__ob0_modules)'
+complete -c ob0-format -l check -d 'Change nothing, and print the names of the files that are not formatted'
+complete -c ob0-format -s h -l help -d 'Print help'
+complete -c ob0-format -s V -l version -d 'Print the version'
+
+# The words before the cursor, after ob0-watch and its report.
+function __ob0_watch_words
+    set -l words (commandline -opc)
+    set -e words[1]
+    if test "$words[1]" = --report
+        set -e words[1..2]
+    end
+    string join \n -- $words
+end
+
+# Whether the command line has no word but the option for a report.
+function __ob0_watch_begins
+    set -l words (commandline -opc)
+    test (count $words) = 1; or test "$words[2..-1]" = --report
+end
+
+# What ob0, or the server after --, has for the word at the cursor.
+function __ob0_watch_rest
+    set -l words (__ob0_watch_words)
+    if test "$words[1]" = --
+        set -e words[1]
+    else
+        set -p words ob0
+    end
+    complete -C (string join ' ' -- (string escape -- $words) (commandline -ct))
+end
+
+complete -c ob0-watch -f
+complete -c ob0-watch -n 'test (count (__ob0_watch_words)) = 0' -a 'serve check run rename help'
+complete -c ob0-watch -n 'test (count (__ob0_watch_words)) = 0' -a -- -d 'Run another server than ob0'
+complete -c ob0-watch -n 'test (count (__ob0_watch_words)) != 0' -a '(__ob0_watch_rest)'
+complete -c ob0-watch -n __ob0_watch_begins -l report -r -F -d 'Write the report to a file'
+complete -c ob0-watch -n __ob0_watch_begins -s h -l help -d 'Print help'

@@ -346,6 +346,8 @@ def by_tab(shell: str) -> None:
             screen.shows(b"1:6: Undeclared" + reads_keys, f"the line that was completed in {shell}")
             screen.keys(b"ob0 run < N\t")
             screen.shows(rb"ew\.mod", f"Tab after `ob0 run < N` in {shell}")
+            screen.keys(b"\x15ob0-format --ch\t")
+            screen.shows(b"eck", f"Tab after `ob0-format --ch` in {shell}")
 
 
 for each in SHELLS:
@@ -359,6 +361,7 @@ def seen_by_vim(words: list[str], environment: dict[str, str], work: str, name: 
     steps = [
         "let r = []", "edit new.mod", "call setline(1, ['MODULE N;', 'BEGIN x := 1 END N.'])", "silent write", "call add(r, &filetype)",
         *(step for it in opened for step in it), "call add(r, exists(':Ob0Run'))", "call add(r, &shiftwidth)",
+        "help ob0", "call add(r, expand('%:t'))", "help :Ob0Run", "call add(r, expand('<cWORD>'))",
         f"call writefile([json_encode(r)], '{report}')", "qall!",
     ]  # fmt: skip
     script = os.path.join(work, "steps.vim")
@@ -366,7 +369,8 @@ def seen_by_vim(words: list[str], environment: dict[str, str], work: str, name: 
     status, drawn = run_in_terminal([*words, "-S", script], environment, work)
     holds(os.path.exists(report), f"{name} said nothing, and ended with {status}: {drawn[-500:]!r}")
     types = json.loads(text_of(report))
-    same(types, ["ob0"] * (1 + len(opened)) + [2, 2], f"what {name} takes the files as, whether it has :Ob0Run, and the width of a level")
+    last = [2, 2, "ob0.txt", "*:Ob0Run*"]
+    same(types, ["ob0"] * (1 + len(opened)) + last, f"what {name} takes the files as, whether it has :Ob0Run, the width of a level, and help")
 
 
 @test("package: Neovim and its server, on a new file and each example, in an empty home")

@@ -28,6 +28,8 @@ from snippets import FENCED
 PLACES = [
     ("share/ob0.1", r'^\.TH OB0 1 \S+ "ob0 (\S+)"'),
     ("share/ob0-format.1", r'^\.TH OB0-FORMAT 1 \S+ "ob0 (\S+)"'),
+    ("share/ob0-watch.1", r'^\.TH OB0-WATCH 1 \S+ "ob0 (\S+)"'),
+    ("share/ob0-format", r'^VERSION = "(\S+)"'),
     ("CHANGELOG.md", r"^## (\S+),"),
     ("editors/emacs/ob0-mode.el", r"^;; Version: (\S+)"),
     ("editors/vscode/package.json", r'^  "version": "([^"]+)"'),
@@ -166,6 +168,23 @@ def known() -> None:
         same(made.call("print(package.moment())", SOURCE_DATE_EPOCH="315532800"), (0, "315532800\n"), "the files' time")
         status, said = made.call("print(package.moment())", SOURCE_DATE_EPOCH="abc")
         same((status, "is a number of seconds" in said), (2, True), said)
+
+
+@test("release: the packages have the same bytes in another folder, with other times of files, zone, locale, home and umask")
+def elsewhere() -> None:
+    with repository() as made, temporary() as room:
+        other = os.path.join(room, "an other f\u00f6lder")
+        shutil.copytree(made.room, other, symlinks=True, copy_function=shutil.copy)
+        sums: list[dict[str, str]] = []
+        varied = [("022", {"TZ": "UTC", "LC_ALL": "C.UTF-8", "PYTHONHASHSEED": "1"})]
+        varied += [("077", {"TZ": "XXX-14", "LC_ALL": "C", "PYTHONHASHSEED": "2", "HOME": room, "USER": "x", "CDPATH": "/", "TERM": "dumb"})]
+        for at, (umask, settings) in zip((made.room, other), varied):
+            status, said = run_plainly(["sh", "-c", f"umask {umask}; make --silent package"], {**made.own, **settings}, at)
+            same(status, 0, said)
+            folder = os.path.join(at, "bin")
+            sums.append({it: common.file_sum(os.path.join(folder, it)) for it in os.listdir(folder) if it.endswith((".deb", ".gz", ".vsix", "SUMS"))})
+        same(sums[1], sums[0], "the sums there")
+        holds(len(sums[0]) >= 3, f"the packages: {sums[0]}")
 
 
 @test("release: without git a version has to be given, and it begins with the program's")

@@ -14,6 +14,7 @@ from collections.abc import Callable, Iterable
 from typing import Any, TypeVar
 
 import harness
+import package
 from harness import Content, Message, TOP, examples, frames, holds, is_running, need_program, published, same, test, text_of
 from homes import write
 from snippets import fenced
@@ -92,6 +93,8 @@ def format_statuses() -> None:
         for words in lines:
             same(ran(["ob0-format", *words], work, own)[:2], (2, ""), f"the status of {words}")
         same(ran(["ob0-format", "--help"], work, own)[::2], (0, ""), "help")
+        for flag in ("-V", "--version"):
+            same(ran(["ob0-format", flag], work, own), (0, f"ob0-format {package.version()}\n", ""), flag)
         said = "ob0-format: ob0 is neither beside this program nor on PATH\n"
         same(ran([sys.executable, FORMAT, "good.mod"], work, {**own, "PATH": work}), (4, "", said), "without ob0")
 

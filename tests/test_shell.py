@@ -17,21 +17,31 @@ from snippets import fenced
 T = TypeVar("T")
 SHARE = os.path.join(TOP, "share")
 COMMANDS = ["check", "rename", "run", "serve"]
-# what is typed after `ob0`, and what is offered, in a folder with these files
+# what is typed, and what is offered, in a folder with these files
 FILES = ["a.ob0", "b.mod", "c.Mod", "d.txt"]
 MODULES = ["a.ob0", "b.mod", "c.Mod"]
 OFFERED = [
-    ("", [*COMMANDS, "help"]),
-    ("help ", COMMANDS),
-    ("help r", ["rename", "run"]),
-    ("--v", ["--version"]),
-    ("r", ["rename", "run"]),
-    ("check ", MODULES),
-    ("run ", MODULES),
-    ("run --", ["--calls", "--help", "--turns"]),
-    ("serve --", ["--clientProcessId", "--help", "--stdio"]),
-    ("rename ", MODULES),
-    ("rename a", ["a.ob0"]),
+    ("ob0 ", [*COMMANDS, "help"]),
+    ("ob0 help ", COMMANDS),
+    ("ob0 help r", ["rename", "run"]),
+    ("ob0 --v", ["--version"]),
+    ("ob0 r", ["rename", "run"]),
+    ("ob0 check ", MODULES),
+    ("ob0 run ", MODULES),
+    ("ob0 run --", ["--calls", "--help", "--turns"]),
+    ("ob0 serve --", ["--clientProcessId", "--help", "--stdio"]),
+    ("ob0 rename ", MODULES),
+    ("ob0 rename a", ["a.ob0"]),
+    ("ob0-format ", MODULES),
+    ("ob0-format --check a.ob0 ", MODULES),
+    ("ob0-format --", ["--check", "--help", "--version"]),
+    ("ob0-watch ", [*COMMANDS, "help"]),
+    ("ob0-watch --", ["--", "--help", "--report"]),
+    ("ob0-watch --report ", FILES),
+    ("ob0-watch --report d.txt r", ["rename", "run"]),
+    ("ob0-watch --report d.txt run ", MODULES),
+    ("ob0-watch serve --", ["--clientProcessId", "--help", "--stdio"]),
+    ("ob0-watch -- dircolo", ["dircolors"]),
 ]
 
 
@@ -64,15 +74,18 @@ def in_bash() -> None:
     want("bash")
 
     def offered(room: str, typed: str) -> list[str]:
-        words = ["ob0", *typed.split(" ")]
-        given = f"COMP_WORDS=({' '.join(shlex.quote(it) for it in words)}); COMP_CWORD={len(words) - 1}; _ob0"
+        words = typed.split(" ")
+        function = f"_{words[0].replace('-', '_')}"
+        given = f"COMP_WORDS=({' '.join(shlex.quote(it) for it in words)}); COMP_CWORD={len(words) - 1}; {function}"
         script = f'source {shlex.quote(os.path.join(SHARE, "ob0.bash"))}; {given}; printf "%s\\n" "${{COMPREPLY[@]}}"'
         status, said = run_plainly(["bash", "--norc", "-c", script], environment(room), room)
         same(status, 0, said)
-        return sorted(said.split())
+        return sorted({*said.split()} - {"-h"})
 
     for typed, wanted in OFFERED:
-        same(in_folder(functools.partial(offered, typed=typed)), sorted(wanted), f"after `ob0 {typed}`")
+        # (bash itself completes a word to all files, if the function finds nothing)
+        by_function = [] if wanted == FILES else sorted(wanted)
+        same(in_folder(functools.partial(offered, typed=typed)), by_function, f"after `{typed}`")
 
 
 @test("shell: completion in fish")
@@ -80,18 +93,19 @@ def in_fish() -> None:
     want("fish")
 
     def offered(room: str, typed: str) -> list[str]:
-        script = f"source {shlex.quote(os.path.join(SHARE, 'ob0.fish'))}; complete -C {shlex.quote('ob0 ' + typed)}"
+        script = f"source {shlex.quote(os.path.join(SHARE, 'ob0.fish'))}; complete -C {shlex.quote(typed)}"
         status, said = run_plainly(["fish", "--no-config", "-c", script], environment(room), room)
         same(status, 0, said)
         return sorted(line.split("\t")[0] for line in said.splitlines() if line.strip())
 
     for typed, wanted in OFFERED:
         found = in_folder(functools.partial(offered, typed=typed))
-        same([it for it in found if it in [*wanted, *COMMANDS, "help", *FILES]], sorted(wanted), f"after `ob0 {typed}`")
+        same(sorted(it for it in found if it in [*wanted, *COMMANDS, "help", *FILES]), sorted(wanted), f"after `{typed}`")
     # (words that fish expands, and what comes after the file)
-    others: dict[str, list[str]] = {"check ~/a": ["~/a.ob0"], "check $HOME/a": ["$HOME/a.ob0"], "check 'b": ["b.mod"], "rename a.ob0 ": []}
-    for typed, wanted in others.items():
-        same(in_folder(functools.partial(offered, typed=typed)), wanted, f"after `ob0 {typed}`")
+    for given, wanted in {"~/a": ["~/a.ob0"], "$HOME/a": ["$HOME/a.ob0"], "'b": ["b.mod"]}.items():
+        for command in ("ob0 check", "ob0-format", "ob0-watch run"):
+            same(in_folder(functools.partial(offered, typed=f"{command} {given}")), wanted, f"after `{command} {given}`")
+    same(in_folder(functools.partial(offered, typed="ob0 rename a.ob0 ")), [], "after a file")
 
 
 @test("shell: completion in zsh")
@@ -113,14 +127,15 @@ def in_zsh() -> None:
 
             said(setup, "ready")
             # (Tab twice: to the longest common beginning, and then the list; then the line is dropped)
-            return [said(f"ob0 {typed}\t\t\x15echo do''ne{at}\n", f"done{at}") for at, (typed, _) in enumerate(OFFERED)]
+            return [said(f"{typed}\t\t\x15echo do''ne{at}\n", f"done{at}") for at, (typed, _) in enumerate(OFFERED)]
 
     for (typed, wanted), shown in zip(OFFERED, in_folder(all_offered)):
-        for word in [*COMMANDS, *FILES, "--calls", "--turns", "--stdio", "--clientProcessId", "--help", "--version"]:
+        for word in {*FILES, *(it for _, more in OFFERED for it in more)} - {"--"}:
             if word in wanted:
-                holds(word in shown, f"{word} is not offered after `ob0 {typed}`: {shown!r}")
-            elif word not in typed and (word in FILES or typed in ("", "r")):
-                holds(word not in shown, f"{word} is offered after `ob0 {typed}`: {shown!r}")
+                holds(word in shown, f"{word} is not offered after `{typed}`: {shown!r}")
+            # (a second Tab after the only completion completes the word after it)
+            elif word not in typed and " -- " not in typed and (word in FILES or typed.endswith(("ob0 ", "watch ", " r"))):
+                holds(word not in shown, f"{word} is offered after `{typed}`: {shown!r}")
 
 
 @test("shell: the manual pages are well formed")

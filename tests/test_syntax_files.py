@@ -7,9 +7,11 @@ import functools
 import json
 import os
 import re
+import shutil
 import xml.etree.ElementTree
 from collections.abc import Callable
 
+import package
 import snippets
 from common import match_of
 from harness import TOP, examples, holds, need_program, same, test, text_of, want
@@ -349,6 +351,78 @@ def in_vim() -> None:
 def in_neovim() -> None:
     want("Neovim")
     by_vim("neovim", ["nvim", "-n", "-i", "NONE", "-u", "RC"], "Neovim")
+
+
+def helped(editor: str, words: list[str], name: str) -> None:
+    """Vim's help page, in Vim or Neovim, which were set up by the lines of their page: what `:helptags` finds in it, and what `:help`
+    shows."""
+    with temporary() as room:
+        own = at_home(room, editor)
+        report, page = os.path.join(room, "report"), text_of("editors", "vim", "doc", "ob0.txt")
+        tags = [it.split("\t")[0] for it in package.help_tags().decode().splitlines()]
+        steps = ["let r = []", "helptags ALL", "help ob0", "call add(r, [&filetype, expand('%:t')])"]
+        steps += [f"help {it} | call add(r, expand('<cWORD>'))" for it in tags]
+        write(os.path.join(room, "steps.vim"), "\n".join([*steps, f"call writefile([json_encode(r)], '{report}')", "qall!", ""]))
+        status, drawn = run_in_terminal([*words, "-S", os.path.join(room, "steps.vim")], own, room)
+        holds(os.path.exists(report), f"{name} said nothing, and ended with {status}: {drawn[-500:]!r}")
+        same(json.loads(text_of(report)), [["help", "ob0.txt"], *(f"*{it}*" for it in tags)], "the help page, and where each tag leads")
+        found = [os.path.join(at, "tags") for at, _, files in os.walk(room) if at.endswith("/vim/doc") and "tags" in files]
+        same([text_of(it) for it in found], [package.help_tags().decode()], "the tags that are packed")
+        same(sorted({*re.findall(r"\|(\S+?)\|", page)} - {*tags}), [":clist"], "what the page links to, besides itself")
+
+
+@test("syntax files: `:help ob0` in Vim, and each of its tags, after `:helptags ALL`")
+def help_in_vim() -> None:
+    want("Vim")
+    helped("vim", ["vim.nox", "-n", "-i", "NONE"], "Vim")
+
+
+@test("syntax files: `:help ob0` in Neovim, and each of its tags, after `:helptags ALL`")
+def help_in_neovim() -> None:
+    want("Neovim")
+    helped("neovim", ["nvim", "-n", "-i", "NONE"], "Neovim")
+
+
+def by_runtimepath(words: list[str], folders: list[str], name: str) -> None:
+    """What Vim or Neovim does with a module and `:help ob0`, if folders like those of the repository are in 'runtimepath'."""
+    with temporary() as room:
+        # (without the program: an editor that ends at once would end the server while it starts)
+        kept = {key: value for key, value in os.environ.items() if not key.startswith("XDG_")}
+        own, report = {**kept, "HOME": room, "TERM": "xterm"}, os.path.join(room, "report")
+        copies = [os.path.join(room, "a copy", it) for it in folders]
+        for it, copy in zip(folders, copies):
+            shutil.copytree(os.path.join(TOP, "editors", it), copy)
+        added = "".join(f"set runtimepath+={it}\n".replace("a copy", "a\\ copy") for it in copies)
+        write(os.path.join(room, "rc.vim"), f"set nocompatible\n{added}filetype plugin indent on\nsyntax on\n")
+        write(os.path.join(room, "new.mod"), SAMPLE)
+        found = "[&filetype, &shiftwidth, exists(':Ob0Run'), exists('b:current_syntax'), exists('g:loaded_ob0')]"
+        steps = ["helptags ALL", "edit new.mod", f"let r = {found}", "help ob0", "call add(r, expand('%:t'))"]
+        write(os.path.join(room, "steps.vim"), "\n".join([*steps, f"call writefile([json_encode(r)], '{report}')", "qall!", ""]))
+        rest = ["-n", "-i", "NONE", "-u", os.path.join(room, "rc.vim"), "-S", os.path.join(room, "steps.vim")]
+        status, drawn = run_in_terminal([*words, *rest], own, room)
+        holds(os.path.exists(report), f"{name} said nothing, and ended with {status}: {drawn[-500:]!r}")
+        same(json.loads(text_of(report)), ["ob0", 2, 2, 1, len(folders) - 1, "ob0.txt"], f"a module in {name}")
+
+
+@test("syntax files: Vim takes its files from a folder in 'runtimepath', where plugin managers put it")
+def managed_in_vim() -> None:
+    want("Vim")
+    by_runtimepath(["vim.nox"], ["vim"], "Vim")
+
+
+@test("syntax files: Neovim takes its files from folders in 'runtimepath', where plugin managers put them")
+def managed_in_neovim() -> None:
+    want("Neovim")
+    by_runtimepath(["nvim"], ["vim", "neovim"], "Neovim")
+
+
+@test("syntax files: the lines that Vim's help page has for settings are those of the editors' pages")
+def help_blocks() -> None:
+    text = text_of("editors", "vim", "doc", "ob0.txt")
+    blocks = ["".join(f"{it[1:]}\n" for it in found.splitlines()) for found in re.findall(r" >\n\n((?:\t.*\n)+)<", text)]
+    of_pages = [*snippets.snippets("neovim", "lua"), *snippets.snippets("vim", "viml"), *snippets.snippets("vim", "vim")]
+    same(blocks, of_pages)
+    holds(text.isascii(), "its tags would begin with their encoding")
 
 
 @test("syntax files: Emacs's mode: file types, colours, indentation, index, check and run")

@@ -72,8 +72,11 @@ COPIED = {
     # (small images leave out share/doc, and the script that marks answers works without it)
     "examples/exercises": EXERCISES,
 }
-# a second name for a file or a folder of the tree (each file of EXERCISES has one below DOC)
+# other names of a file or a folder of the tree (each file of EXERCISES has one below DOC); bash and fish load completions by the
+# command's name
 LINKED = {
+    **{f"share/bash-completion/completions/{it}": "share/bash-completion/completions/ob0" for it in ("ob0-format", "ob0-watch")},
+    **{f"share/fish/vendor_completions.d/{it}.fish": "share/fish/vendor_completions.d/ob0.fish" for it in ("ob0-format", "ob0-watch")},
     f"{NVIM}/ob0-vim": VIM,
     "share/zsh/site-functions/_ob0": "share/zsh/vendor-completions/_ob0",
     "share/gtksourceview-4/language-specs/oberon0.lang": "share/gtksourceview-5/language-specs/oberon0.lang",
@@ -298,6 +301,13 @@ def emacs_package() -> bytes:
     return f";; What Emacs reads of the installed package  -*- no-byte-compile: t -*-\n{line}\n".encode()
 
 
+def help_tags() -> bytes:
+    """The tags of Vim's help pages, as `:helptags` writes them: those who use an installed page can't write there."""
+    pages = [it for it in names_below("editors/vim/doc") if it.endswith(".txt")]
+    found = [(tag, os.path.basename(it)) for it in pages for tag in re.findall(r"(?<!\S)\*([^*|\s/\\]+)\*(?!\S)", read(it).decode())]
+    return "".join(f"{tag}\t{page}\t/*{tag}*\n" for tag, page in sorted(found)).encode()
+
+
 OVERRIDES = """# the packed program is the proved one, byte for byte
 ob0: unstripped-binary-or-object [usr/bin/ob0]
 # the archive has the same file, for systems without /usr/share/common-licenses
@@ -323,6 +333,7 @@ def tree() -> Tree:
     for source, target in COPIED.items():
         for below, path in files_of(source):
             found[os.path.normpath(os.path.join(target, below))] = (read(path), 0o644)
+    found[f"{VIM}/doc/tags"] = (help_tags(), 0o644)
     exercises = {f"{DOC}/examples/exercises/{it}": f"{EXERCISES}/{it}" for it, _ in files_of("examples/exercises")}
     for path, target in {**LINKED, **exercises}.items():
         found[path] = (Link(os.path.relpath(target, os.path.dirname(path))), 0o777)
