@@ -17,7 +17,7 @@ KEYS, RUNS = "A key, by the size of the text", "Runs, beside Lua and Python"
 # the plot under each heading: its file, and what it shows
 PLOTS = {
     KEYS: ("keys.svg", "Instructions for a change, and for reading from scratch, by the size of the text"),
-    RUNS: ("runs.svg", "Instructions of ob0's runs, by those of Lua and of Python"),
+    RUNS: ("runs.svg", "Instructions of ob0's runs, relative to Lua's and Python's"),
 }
 COLOURS = ["ink", "one", "two", "three", "four"]
 Rows = List[Tuple[str, List[float]]]
