@@ -164,14 +164,15 @@ def squeezed(content: bytes) -> bytes:
 
 def names_below(source: str) -> list[str]:
     """The files of a folder of the repository, or the file itself: those that git knows, so that nothing else is packed that lies
-    there. Without a repository they are all files."""
+    there. Without a repository they are all files. What a page is made from (`.in.md`) isn't packed."""
     if git("rev-parse", "HEAD"):
         found = git("ls-files", "-z", "--", source).split("\0")
     elif os.path.isfile(os.path.join(TOP, source)):
         found = [source]
     else:
         found = [os.path.relpath(os.path.join(at, it), TOP) for at, _, names in os.walk(os.path.join(TOP, source)) for it in names]
-    return sorted(it for it in found if it and os.path.isfile(os.path.join(TOP, it)) and "__pycache__" not in it)
+    packed = (it for it in found if it and "__pycache__" not in it and not it.endswith(".in.md"))
+    return sorted(it for it in packed if os.path.isfile(os.path.join(TOP, it)))
 
 
 def files_of(source: str) -> list[tuple[str, str]]:

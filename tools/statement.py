@@ -494,7 +494,8 @@ class Page:
                     name = self.names[need, need.names[0]]
                     if name not in by_file.setdefault(place, []):
                         by_file[place].append(name)
-        items = [f"[{place[len('crates/'):]}](../{place}): {', '.join(f'`{it}`' for it in names)}" for place, names in sorted(by_file.items())]
+        # (a package has no crates, so these are no links)
+        items = [f"{place}: {', '.join(f'`{it}`' for it in names)}" for place, names in sorted(by_file.items())]
         return listed(items)
 
     def named_lines(self, kind: str) -> list[str]:
