@@ -61,7 +61,8 @@ at_run = nth 2 subs
 abbrev at_rename : Shape
 at_rename = nth 3 subs
 
--- Returns an argument as it is after the command is built, with its index among the positional arguments.
+-- Returns an argument as it is after the command is built, with its index among the positional
+-- arguments.
 abbrev placed : ℕ → Rule → Rule
 placed i a = with_index i (filled a)
 
@@ -174,8 +175,8 @@ enabled = refl
 
 -- ---- from the words
 
--- If the walk ends at a subcommand other than `help` and that subcommand has no fault, it has all the arguments that it
--- needs.
+-- If the walk ends at a subcommand other than `help` and that subcommand has no fault, it has all
+-- the arguments that it needs.
 entered_needs : (stop : Option (Text × List Text)) → IsNoHelp stop → entered_fault (built ob0_app) stop ≡ [] → is_some (entered (built ob0_app) stop) ≡ true
     → HasNeeded (entered (built ob0_app) stop)
 entered_needs None other e there = cc
@@ -212,8 +213,8 @@ mapped_some : {A B : Type 0} (f : A → B) (o : Option A) → is_some o ≡ true
 mapped_some f None e = e
 mapped_some f (Some a) e = refl
 
--- After a parse without a fault, clap's matches have the subcommand that the words select, with all the arguments that
--- it needs.
+-- After a parse without a fault, clap's matches have the subcommand that the words select, with all
+-- the arguments that it needs.
 pub parsed : (c : Command) (words : List Text) (m : ArgMatches) → app_of c ≡ ob0_app → fault_of ob0_app words ≡ [] → IsParsedFrom c m → HasMatchesOf (app_of c) words m
     → (subcommand_rows_of m ≡ subcommand_of ob0_app words) × HasNeeded (subcommand_rows_of m)
 parsed c words m is none from matches =
@@ -243,7 +244,8 @@ named_rows m name rows n r = go (out-ArgMatches m).subcommand n r
     go None n r = cc
     go (Some b) n r = ap₂ (λ (t : Text) (rs : List Row). Some (t, rs)) (sym (ap (first_or name) n)) (sym (ap (rows_or rows) r))
 
--- The getter of the subcommand returns its name and rows, and the subcommand has all the arguments that it needs.
+-- The getter of the subcommand returns its name and rows, and the subcommand has all the arguments
+-- that it needs.
 pub entered_is : (m given : ArgMatches) (name : Text) → HasNeeded (subcommand_rows_of m) → Some name ≡ subcommand_name_of m
     → Some (rows_of (found_in given)) ≡ option_map (λ p. p.1) (subcommand_rows_of m)
     → (subcommand_rows_of m ≡ Some (name, rows_of (found_in given))) × NeedsAt name (rows_of (found_in given))

@@ -5,7 +5,8 @@ use Rattle.std.proofs.lemmas.Slice.Eq.{bytes_eq-Decides}
 use Rattle.clap.specs.Words.{Row, Text}
 use Rattle.ob0_cli.specs.Given.{HasBounded, HasPlace, HasText, NeedsAt}
 
--- Returns the first letter of a name, or 0 if the name is empty. It distinguishes a name from all others except one.
+-- Returns the first letter of a name, or 0 if the name is empty. It distinguishes a name from all
+-- others except one.
 first : Text → ℕ
 first name = get_or name 0 0
 

@@ -17,7 +17,8 @@ small id = go (bytes_eq id (codes "calls"))
     go false = omega arith
 
 module _ {E : Type 0} (G : List ℕ → Result ℕ E → Type 0) where
-  -- If the value of a bounded option passed its parser, the getter returns a number within the option's bounds.
+  -- If the value of a bounded option passed its parser, the getter returns a number within the
+  -- option's bounds.
   pub bounded_reads : (id text : List ℕ) (r : Option ℕ) → ((u : List ℕ) (x : Result ℕ E) → G u x → ParsesUnsigned 32 10 u x)
       → ReadsOne G (without_minus text) r → IsSignedIn (pos 0) (pos (most_of id)) text
       → (n : ℕ) × (r ≡ Some n) × (0 ≤ n) × (n ≤ most_of id)

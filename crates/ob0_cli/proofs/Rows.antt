@@ -40,7 +40,8 @@ found_of {A} P (x ∷ xs) all p a e = go (p x) refl e (found_of P xs all.1 p a)
         subst (λ y. P y × (p y ≡ true)) same (all.0, is)
     go false is e later = later e
 
--- Holds if the row has a first value, and R holds for the row's name, that value and the row's reading.
+-- Holds if the row has a first value, and R holds for the row's name, that value and the row's
+-- reading.
 pub record Meets (R : Text → Text → Reading → Type 0) (r : Row) : Type 0 where
   pub value : Text
   pub more : List Text
@@ -69,7 +70,8 @@ module _ (R : Text → Text → Reading → Type 0) where
 
 -- ---- the parser that an argument's value has passed
 
--- Holds if the value passed the parser of the argument with this name, and `how` is the reading of that parser.
+-- Holds if the value passed the parser of the argument with this name, and `how` is the reading of
+-- that parser.
 pub record Passed (rules : List Rule) (id : Text) (value : Text) (how : Reading) : Type 0 where
   pub rule : Rule
   pub own : arg_by_id rules id ≡ Some rule

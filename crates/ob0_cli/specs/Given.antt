@@ -25,7 +25,8 @@ IsNumber id rows n =
     × (one_of id rows ≡ Some digits)
     × (n ≡ digits_value 10 (without_leading_plus digits))
 
--- Holds if the command line is of the subcommand with this name, and has the values found for its arguments.
+-- Holds if the command line is of the subcommand with this name, and has the values found for its
+-- arguments.
 abbrev pub HoldsValues : Text → List Row → CommandLine → Type 0
 HoldsValues name rows Serve = name ≡ codes "serve"
 HoldsValues name rows (Check file) =
@@ -54,13 +55,14 @@ abbrev pub IsReadFrom : FoundCommand → CommandLine → Type 0
 IsReadFrom found line =
     (name : Text) × (rows : List Row) × (found ≡ Some (name, rows)) × HoldsValues name rows line
 
--- Holds if the words have no fault by the definition of `ob0`, and their subcommand is this command line.
+-- Holds if the words have no fault by the definition of `ob0`, and their subcommand is this command
+-- line.
 pub record Gives (words : List Text) (line : CommandLine) : Type 0 where
   pub fine : fault_of ob0_app words ≡ []
   pub read : IsReadFrom (subcommand_of ob0_app words) line
 
--- Holds if the words may be refused so. The error's kind is the kind of their first fault, and never 'out of memory'. A
--- failed allocation is allowed for any words.
+-- Holds if the words may be refused so. The error's kind is the kind of their first fault, and
+-- never 'out of memory'. A failed allocation is allowed for any words.
 abbrev pub RefusesWords : List Text → CommandFault → Type 0
 RefusesWords words (Refused error) =
     IsAmong (kind_of error) (fault_of ob0_app words) × ¬ (kind_of error ≡ OutOfMemory)
@@ -72,8 +74,8 @@ RefusesWords words Memory = Unit {0}
 abbrev pub HasText : Text → List Row → Type 0
 HasText id rows = (text : Text) × (first_of id rows ≡ Some text)
 
--- Returns the greatest number that `--calls` accepts for the name `calls`, and the one that `--turns` accepts for any
--- other name.
+-- Returns the greatest number that `--calls` accepts for the name `calls`, and the one that
+-- `--turns` accepts for any other name.
 abbrev pub most_of : Text → ℕ
 most_of id = if bytes_eq id (codes "calls") then max_calls else max_turns
 

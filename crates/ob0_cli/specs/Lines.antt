@@ -39,20 +39,20 @@ turns_rule = record (new_rule (codes "turns")) {
   defaults = codes "100000" ∷ [];
 }
 
--- The rule of `--stdio`, which selects standard input and output (LSP 3.17, implementation considerations). They are
--- always used.
+-- The rule of `--stdio`, which selects standard input and output (LSP 3.17, implementation
+-- considerations). They are always used.
 abbrev pub stdio_rule : Rule
 stdio_rule =
     record (new_rule (codes "stdio")) { long = Some (codes "stdio"); action = Some SetTrue }
 
--- The rule of `--clientProcessId`, the process of the client (LSP 3.17, implementation considerations). Any word is
--- accepted, and nothing depends on it.
+-- The rule of `--clientProcessId`, the process of the client (LSP 3.17, implementation
+-- considerations). Any word is accepted, and nothing depends on it.
 abbrev pub client_rule : Rule
 client_rule =
     record (new_rule (codes "client")) { long = Some (codes "clientProcessId"); value_names = 1 }
 
--- The subcommand `serve` without its options. Each of them may be given several times, because clients add options to
--- the user's own.
+-- The subcommand `serve` without its options. Each of them may be given several times, because
+-- clients add options to the user's own.
 abbrev pub serve_alone : App
 serve_alone =
     record (new_app (codes "serve"))

@@ -15,7 +15,8 @@ pub too_long_text : too_long_line ≡ codes "0:0: TooLong: text too long\n"
 unfolding digits
 too_long_text = refl
 
--- Holds if the first n lines, followed by the lines of the remaining diagnostics, are the lines of all diagnostics.
+-- Holds if the first n lines, followed by the lines of the remaining diagnostics, are the lines of
+-- all diagnostics.
 abbrev pub Gathered : List Diagnosis → List Position → ℕ → List ℕ → Type 0
 Gathered ds ps n lines = lines ++ lines_at (drop n ps) (map complaint_in (drop n ds)) ≡ lines_at ps (map complaint_in ds)
 

@@ -30,14 +30,16 @@ reports_wrong text file reported shown before mid after same kept is h some prin
 pub bytes_of : (content text : List ℕ) → content ≡ chars text → IsUtf8 text → encode_utf8_all content ≡ text
 bytes_of content text is u = ap encode_utf8_all is ∙ encodes-chars text u
 
--- If the text isn't a well-typed module, the lines of its reported diagnoses are the lines of its errors.
+-- If the text isn't a well-typed module, the lines of its reported diagnoses are the lines of its
+-- errors.
 pub not_well_typed : (text : List ℕ) (reported shown : List Diagnosis) (before after : Option (List ℕ)) → shown ≡ reported
     → ¬ IsWellTypedModule text → Reports text (map complaint_in reported) → Appends before after (complaint_lines text (map complaint_in shown)) → PrintsFaults text before after
 not_well_typed text reported shown before after is isnt (inl h) printed = absurd (isnt h.0)
 not_well_typed text reported shown before after is isnt (inr h) printed =
     inr (map complaint_in reported, h.0, h.1, subst (λ (ds : List Diagnosis). Appends before after (complaint_lines text (map complaint_in ds))) is printed)
 
--- If the text isn't a well-typed module, the lines that `rename` prints are the lines of its errors.
+-- If the text isn't a well-typed module, the lines that `rename` prints are the lines of its
+-- errors.
 pub ill_typed : (content text : List ℕ) (reported shown : List Diagnosis) (before after : Option (List ℕ)) → content ≡ chars text → IsUtf8 text → shown ≡ reported
     → ¬ IsWellTypedModule (encode_utf8_all content) → Reports text (map complaint_in reported) → Appends before after (complaint_lines text (map complaint_in shown)) → PrintsFaults text before after
 ill_typed content text reported shown before after holds u is isnt h printed =

@@ -5,7 +5,8 @@ use Rattle.std.specs.Str.Parse.{IsNumeral, signed_digits_value, without_leading_
 use Rattle.ob0_run_machine.specs.Evaluation.{fits}
 use Rattle.ob0_scan.specs.Classes.{is_space}
 
--- Holds if the word spells this number of 32 bits: one or more decimal digits, optionally after a `-`.
+-- Holds if the word spells this number of 32 bits: one or more decimal digits, optionally after a
+-- `-`.
 pub record WritesNumber (word : List ℕ) (n : ℤ) : Type 0 where
   pub no_plus : slice_index word 0 ≢ 43
   pub digits : IsNumeral 10 (without_leading_sign word)
@@ -17,8 +18,8 @@ abbrev pub EndsWord : List ℕ → Type 0
 EndsWord [] = ⊤
 EndsWord (b ∷ bs) = IsTrue (is_space b)
 
--- Holds if the text spells these numbers. Each word is a number, and words are separated by white space: space, tab, CR
--- or LF.
+-- Holds if the text spells these numbers. Each word is a number, and words are separated by white
+-- space: space, tab, CR or LF.
 pub data WritesNumbers : List ℕ → List ℤ → Type 0 where
   nothing : WritesNumbers [] []
   space : {b : ℕ} {text : List ℕ} {ns : List ℤ}
@@ -47,6 +48,7 @@ pub record IsInputOf (ns : List ℤ) (text : List ℕ) : Type 0 where
 abbrev pub IsNoInput : List ℕ → Type 0
 IsNoInput text = ¬ ((ns : List ℤ) × IsInputOf ns text)
 
--- Holds if there are no numbers to run on: the reader has failed, or its bytes are known and aren't a valid input.
+-- Holds if there are no numbers to run on: the reader has failed, or its bytes are known and aren't
+-- a valid input.
 abbrev pub HasNoNumbers : Option (List ℕ) → Bool → Type 0
 HasNoNumbers given failed = (failed ≡ true) ⊎ IfSome given IsNoInput

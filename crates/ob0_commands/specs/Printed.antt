@@ -42,7 +42,8 @@ lines_at [] cs = []
 lines_at (p ∷ ps) [] = []
 lines_at (p ∷ ps) (c ∷ cs) = line_at p c ++ lines_at ps cs
 
--- Returns the line of a diagnostic, with the position of its start. Lines and UTF-16 units are counted from 0.
+-- Returns the line of a diagnostic, with the position of its start. Lines and UTF-16 units are
+-- counted from 0.
 abbrev pub complaint_line : List ℕ → Complaint → List ℕ
 complaint_line text c = line_at (position_of (width_of Utf16) (chars text) c.span.start) c
 
@@ -59,8 +60,9 @@ too_long = complaint_of (record { code = TooLong; span = record { start = 0; end
 abbrev pub too_long_line : List ℕ
 too_long_line = line_at (record { line = 0; character = 0 }) too_long
 
--- Holds if known bytes grow by the lines of a file's errors. If the file has more bytes than a text may have, that is
--- one line. Otherwise the text isn't a well-typed module, and each diagnostic has a line.
+-- Holds if known bytes grow by the lines of a file's errors. If the file has more bytes than a text
+-- may have, that is one line. Otherwise the text isn't a well-typed module, and each diagnostic has
+-- a line.
 abbrev pub PrintsFaults : List ℕ → Option (List ℕ) → Option (List ℕ) → Type 0
 PrintsFaults file before after =
     ((max_text < length file) × Appends before after too_long_line)

@@ -42,15 +42,16 @@ abbrev pub IsRefusal : Result (Vec Edit Global) EditRefusal
 IsRefusal (Ok edits) Said = ⊥
 IsRefusal (Err refusal) Said = Said (Some (refused_line refusal))
 
--- Holds if some edits put the new name into the file's text, and the edited text is printed. Positions count UTF-16
--- units.
+-- Holds if some edits put the new name into the file's text, and the edited text is printed.
+-- Positions count UTF-16 units.
 pub record PrintsRenamed (file : List ℕ) (position : Position) (new : List ℕ)
     (before after : Option (List ℕ)) : Type 0 where
   pub edits : List Edit
   pub rename : RenamesIn Utf16 (chars file) position new edits
   pub prints : PrintsPatched Utf16 (chars file) edits before after
 
--- Holds if the name is refused, the refusal is printed on standard error, and the output is unchanged.
+-- Holds if the name is refused, the refusal is printed on standard error, and the output is
+-- unchanged.
 pub record RefusesName (file : List ℕ) (position : Position) (new : List ℕ)
     (before after : Option (List ℕ)) (Said : Option (List ℕ) → Type 0) : Type 0 where
   pub refusal : EditRefusal
@@ -70,8 +71,9 @@ PrintsNoName file position new before after Said =
     (PrintsFaults file before after × Said None)
     ⊎ RefusesName file position new before after Said
 
--- Holds if `rename` ends with this status. 0: the text with the new name is printed and flushed, and nothing on
--- standard error. 1: the file's errors are printed or the name is refused, and any output is flushed.
+-- Holds if `rename` ends with this status. 0: the text with the new name is printed and flushed,
+-- and nothing on standard error. 1: the file's errors are printed or the name is refused, and any
+-- output is flushed.
 abbrev pub Renames : {O : Type 0}
     → (contents : O → Option (List ℕ))
     → (is_flushed : O → Bool)

@@ -1,14 +1,14 @@
--- Defines the lines that the commands print on standard error, in bytes of UTF-8. `EndsByFault`, `PrintsEnded` and
--- `RefusesName` take `Says` as a function of the line. So the line belongs to the same fault, run or refusal as the
--- status and the output.
+-- Defines the lines that the commands print on standard error, in bytes of UTF-8. `EndsByFault`,
+-- `PrintsEnded` and `RefusesName` take `Says` as a function of the line. So the line belongs to the
+-- same fault, run or refusal as the status and the output.
 -- Rule: docs/PROTOCOL.md, The program 2, 3, 5, 6 and 7.
 use Rattle.std.specs.Prelude.{◌≡◌, ◌++◌, ℕ, List, Option, Some, None, Bool, true, false, codes}
 use Rattle.std.specs.Io.KnownBytes.{Appends}
 use Rattle.ob0_text.specs.RefusalTexts.{refusal_text}
 use Rattle.ob0_text.specs.declared.refusals.EditRefusal.{EditRefusal}
 
--- Holds if standard error gets this line, or nothing for None. A line is printed and flushed, unless the writer has
--- failed. For None the writer is unchanged.
+-- Holds if standard error gets this line, or nothing for None. A line is printed and flushed,
+-- unless the writer has failed. For None the writer is unchanged.
 abbrev pub Says : {E : Type 0}
     → (contents : E → Option (List ℕ))
     → (is_flushed has_failed : E → Bool)

@@ -26,7 +26,8 @@ StopsPrinting f = (f ≡ fault.Write) ⊎ (f ≡ fault.Memory)
 abbrev pub HasNoText : List ℕ → Type 0
 HasNoText file = (length file ≤ max_text) × ¬ (IsUtf8 file)
 
--- Holds if the fault is the reason why no diagnostics are printed: the file has no text, or printing fails.
+-- Holds if the fault is the reason why no diagnostics are printed: the file has no text, or
+-- printing fails.
 abbrev pub StopsPrintingFaults : List ℕ → FileFault → Type 0
 StopsPrintingFaults file f =
     ((f ≡ fault.Utf8) × HasNoText file) ⊎ (StopsPrinting f × ¬ (HasNoText file))
@@ -39,7 +40,8 @@ AllocatesFor file f = f ≡ fault.Memory → length file ≤ max_text
 abbrev pub PrintsNothing : {O : Type 0} → (before after : O) → FileFault → Type 0
 PrintsNothing before after f = f ≢ fault.Write → after ≡ before
 
--- Holds if the fault is the one of this name and `reason` holds, or if an allocation failed and `otherwise` holds.
+-- Holds if the fault is the one of this name and `reason` holds, or if an allocation failed and
+-- `otherwise` holds.
 abbrev pub StopsFor : (name : FileFault) → (reason otherwise : Type 0) → FileFault → Type 0
 StopsFor name reason otherwise f = ((f ≡ name) × reason) ⊎ ((f ≡ fault.Memory) × otherwise)
 
@@ -53,8 +55,8 @@ status_at end.InputEnd = 1
 status_at end.CallBound = 1
 status_at end.TurnBound = 1
 
--- Holds if the output has failed exactly as the fault says: it has failed after `Write`; with any other fault it has
--- failed only if it had before.
+-- Holds if the output has failed exactly as the fault says: it has failed after `Write`; with any
+-- other fault it has failed only if it had before.
 abbrev pub IsOfOutput : (before after : Bool) → FileFault → Type 0
 IsOfOutput before after f =
     (f ≡ fault.Write → after ≡ true) × (f ≢ fault.Write → after ≡ before)
@@ -69,8 +71,8 @@ HasNoInput file given input_failed = IsWellTypedModule file × HasNoNumbers give
 abbrev pub IsOfInput : (before after : Bool) → FileFault → Type 0
 IsOfInput before after f = f ≢ fault.Input → after ≡ before
 
--- Holds if the fault is the reason why no run is printed: there is no input for the module, the file has no text, or
--- printing fails.
+-- Holds if the fault is the reason why no run is printed: there is no input for the module, the
+-- file has no text, or printing fails.
 abbrev pub StopsRunning : List ℕ → Option (List ℕ) → (input_failed : Bool) → FileFault → Type 0
 StopsRunning file given input_failed f =
     ((f ≡ fault.Input) × HasNoInput file given input_failed) ⊎ StopsPrintingFaults file f

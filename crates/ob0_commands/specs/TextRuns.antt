@@ -16,8 +16,8 @@ use Rattle.ob0_commands.specs.Endings.{EndsWell}
 use Rattle.ob0_commands.specs.Numbers.{IsInputOf}
 use Rattle.ob0_commands.specs.Printed.{PrintsFaults, end_line, output_text}
 
--- Holds if the text is a well-typed module and this is its run. `c` bounds the open calls and `t` the iterations of a
--- loop.
+-- Holds if the text is a well-typed module and this is its run. `c` bounds the open calls and `t`
+-- the iterations of a loop.
 pub record TextRunsAs (text : List ℕ) (input : List ℤ) (c t : ℕ) (r : Run) : Type 0 where
   pub tree : Tree Name module_text
   pub text_of : IsTextOf tree text
@@ -31,8 +31,8 @@ pub record IsLoweredTo (text : List ℕ) (program : Program) : Type 0 where
   pub well_typed : WellTyped tree
   pub runs : lowered.RunsAs tree program
 
--- Holds if known bytes grow by the output of this run of the file's module. The run's input are the numbers that the
--- known bytes of the reader spell.
+-- Holds if known bytes grow by the output of this run of the file's module. The run's input are the
+-- numbers that the known bytes of the reader spell.
 pub record PrintsRun (file : List ℕ) (given : Option (List ℕ)) (c t : ℕ)
     (before after : Option (List ℕ)) (r : Run) : Type 0 where
   pub input : List ℤ
@@ -51,7 +51,8 @@ abbrev pub PrintsDone : List ℕ
 PrintsDone file given c t before after =
     (r : Run) × PrintsRun file given c t before after r × (r.ending ≡ end_in end.Done)
 
--- Holds if the output of a run with another end is printed, and the line of that end on standard error.
+-- Holds if the output of a run with another end is printed, and the line of that end on standard
+-- error.
 pub record PrintsEnded (file : List ℕ) (given : Option (List ℕ)) (c t : ℕ)
     (before after : Option (List ℕ)) (Said : Option (List ℕ) → Type 0) : Type 0 where
   pub r : Run
@@ -61,8 +62,8 @@ pub record PrintsEnded (file : List ℕ) (given : Option (List ℕ)) (c t : ℕ)
   pub ends : r.ending ≡ end_in last
   pub said : Said (end_line last)
 
--- Holds if the file's errors are printed and nothing on standard error, or if the output of a run with an end other
--- than Done is printed and the line of that end on standard error.
+-- Holds if the file's errors are printed and nothing on standard error, or if the output of a run
+-- with an end other than Done is printed and the line of that end on standard error.
 abbrev pub PrintsOther : List ℕ
     → Option (List ℕ)
     → ℕ
@@ -75,8 +76,9 @@ PrintsOther file given c t before after Said =
     (PrintsFaults file before after × Said None)
     ⊎ PrintsEnded file given c t before after Said
 
--- Holds if `run` ends with this status. 0: the run to the end of the module's body is printed, and nothing on standard
--- error. 1: another run or the file's errors are printed. All output is flushed.
+-- Holds if `run` ends with this status. 0: the run to the end of the module's body is printed, and
+-- nothing on standard error. 1: another run or the file's errors are printed. All output is
+-- flushed.
 abbrev pub PrintsRuns : {O : Type 0}
     → (contents : O → Option (List ℕ))
     → (is_flushed : O → Bool)

@@ -49,7 +49,8 @@ whatever (Err e) p = p
 
 -- ---- the frames of messages, one after another
 
--- If the list of heads belongs to the list of messages, the i-th head is the head of the i-th message.
+-- If the list of heads belongs to the list of messages, the i-th head is the head of the i-th
+-- message.
 pub head_text : {X : Type 0} (items : X → List ℕ) (heads messages : List X) (i : ℕ) (h m : X) → map items heads ≡ map (λ x. written_head (length (items x))) messages
     → i < length messages → h ≡ get_or heads i h → m ≡ get_or messages i m → items h ≡ written_head (length (items m))
 head_text items heads messages i h m same inside his mis =

@@ -8,7 +8,8 @@ use Rattle.ob0_session_json.specs.Made.{DiagnosticsAre, diagnostic_in}
 use Rattle.ob0_session_json.specs.Shapes as shapes
 use Rattle.ob0_session_json.specs.declared.publication.Diagnostic.{Diagnostic}
 
--- If the list agrees with the diagnoses so far, it still agrees after the diagnostic of the next diagnosis is added.
+-- If the list agrees with the diagnoses so far, it still agrees after the diagnostic of the next
+-- diagnosis is added.
 pub diagnostics_next : (shown : Diagnosis → shapes.Diagnostic) (listed : List Diagnosis) (d : Diagnosis) (vs : List Diagnostic) (v : Diagnostic) → DiagnosticsAre (map shown listed) vs → diagnostic_in v ≡ shown d → DiagnosticsAre (map shown (listed ++ d ∷ [])) (vs ++ v ∷ [])
 diagnostics_next shown listed d vs v are is = rw (map-append shown listed (d ∷ []), map-append diagnostic_in vs (v ∷ []), are, is) refl
 

@@ -1,4 +1,5 @@
--- Defines the answer to a request for code actions, which inline a constant at one use or everywhere.
+-- Defines the answer to a request for code actions, which inline a constant at one use or
+-- everywhere.
 -- Rule: docs/PROTOCOL.md, Requests on documents 7.
 use Rattle.std.specs.Prelude.{◌≡◌, ◌⊎◌, ℕ, ℤ, List, [], ◌∷◌, ◌++◌, Bool, true, false, ◌&&◌, ◌||◌, min, Option, Some, None, Vec, codes}
 use Rattle.std.specs.List.{list_any}
@@ -25,8 +26,8 @@ use Rattle.ob0_edits.specs.declared.inlining.Inlining.TheVariants.{Here, Everywh
 
 -- ---- the request
 
--- A request for code actions: its id, the client's capabilities, the document and its version, the range, and the
--- requested kinds of actions (None if the request names no kinds).
+-- A request for code actions: its id, the client's capabilities, the document and its version, the
+-- range, and the requested kinds of actions (None if the request names no kinds).
 pub record RequestedActions : Type 0 where
   pub id : Data
   pub client : Client
@@ -57,15 +58,16 @@ abbrev pub allows_inlining : Option (List (List ℕ)) → Bool
 allows_inlining (Some kinds) = list_any is_of_kind kinds
 allows_inlining None = true
 
--- Returns true if the client accepts actions that aren't commands, and inlining is of a requested kind or no kinds are
--- requested.
+-- Returns true if the client accepts actions that aren't commands, and inlining is of a requested
+-- kind or no kinds are requested.
 abbrev pub takes_inlining : Client → Option (List (List ℕ)) → Bool
 takes_inlining client only = client.takes_literal_actions && allows_inlining only
 
 abbrev pub wants_inlining : RequestedActions → Bool
 wants_inlining requested = takes_inlining requested.client requested.only
 
--- Returns the byte offset at which actions apply: the start of the range, or its end if that is before the start.
+-- Returns the byte offset at which actions apply: the start of the range, or its end if that is
+-- before the start.
 abbrev pub actions_offset : Unit → List ℕ → Range → ℕ
 actions_offset unit text range =
     min (offset_of (width_of unit) text range.start) (offset_of (width_of unit) text range.end)
@@ -96,8 +98,8 @@ actions_value requested here everywhere =
     array (items_of
     (action_values requested Here here ++ action_values requested Everywhere everywhere))
 
--- Holds if the client requests inlining, the text is a well-typed module, and the value lists the actions offered for
--- it.
+-- Holds if the client requests inlining, the text is a well-typed module, and the value lists the
+-- actions offered for it.
 pub record ListsInlinings (unit : Unit) (requested : RequestedActions) (text : List ℕ)
     (value : Data) : Type 0 where
   pub here : Option (Vec Edit Global)
@@ -108,15 +110,16 @@ pub record ListsInlinings (unit : Unit) (requested : RequestedActions) (text : L
       everywhere
   pub listed : value ≡ actions_value requested here everywhere
 
--- Holds if the value lists the offered actions. It is empty if the client requests none of them, or if the text isn't a
--- well-typed module.
+-- Holds if the value lists the offered actions. It is empty if the client requests none of them, or
+-- if the text isn't a well-typed module.
 abbrev pub ListsActions : Unit → RequestedActions → List ℕ → Data → Type 0
 ListsActions unit requested text value =
     ListsInlinings unit requested text value
     ⊎ (((wants_inlining requested ≡ false) ⊎ ¬ IsWellTypedModule (utf8 text))
     × (value ≡ array no_items))
 
--- Holds if the message answers the request for a document with this text. Positions are counted in this unit.
+-- Holds if the message answers the request for a document with this text. Positions are counted in
+-- this unit.
 abbrev pub AnswersActions : Unit → RequestedActions → List ℕ → Data → Type 0
 AnswersActions unit requested text message =
     (value : Data)

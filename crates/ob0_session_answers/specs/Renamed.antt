@@ -17,8 +17,8 @@ use Rattle.ob0_analysis.specs.Texts.{utf8}
 use Rattle.ob0_session_json.specs.Shapes.{edit_refused, workspace_edit}
 use Rattle.ob0_session_answers.specs.declared.renaming.RenameRequest.{RenameRequest}
 
--- A request for renaming: its id, the client's capabilities, the document and position, the document's version, and the
--- new name.
+-- A request for renaming: its id, the client's capabilities, the document and position, the
+-- document's version, and the new name.
 pub record RequestedRename : Type 0 where
   pub id : Data
   pub client : Client
@@ -42,7 +42,8 @@ abbrev pub edits_for_client : RequestedRename → List Edit → Data
 edits_for_client requested edits =
     workspace_edit requested.client requested.at.uri requested.version edits
 
--- Holds if the message answers the request for a document with this text. Positions are counted in this unit.
+-- Holds if the message answers the request for a document with this text. Positions are counted in
+-- this unit.
 abbrev pub AnswersRenaming : Unit → RequestedRename → List ℕ → Data → Type 0
 AnswersRenaming unit requested text message =
     ((edits : List Edit)

@@ -1,9 +1,9 @@
 //! Answers requests for code actions, which inline a constant at one use or everywhere.
 //!
-//! `inline_in` of `ob0_edits` makes the edits. `place_of` compares offsets, so no law about the order of positions is
-//! needed for a swapped range (`actions_offset` is the smaller of two offsets). The title, the definition and the edits
-//! of an action all depend on one `Inlining` (`Here` or `Everywhere`). To add an action, add an `Inlining` and a line
-//! in `title`.
+//! `inline_in` of `ob0_edits` makes the edits. `place_of` compares offsets, so no law about the
+//! order of positions is needed for a swapped range (`actions_offset` is the smaller of two
+//! offsets). The title, the definition and the edits of an action all depend on one `Inlining`
+//! (`Here` or `Everywhere`). To add an action, add an `Inlining` and a line in `title`.
 
 ghost use Rattle.std.specs.Prelude.{◌≡◌, IfOk, map, string_bytes};
 ghost use Rattle.std.specs.List.{list_any};
@@ -70,15 +70,16 @@ impl<'a, T: TextStore> DocumentRequest<T> for ActionsRequest<'a> {
 }
 
 impl<'a> ActionsRequest<'a> {
-    /// Returns whether the client accepts actions that aren't commands, and inlining is of a requested kind or no kinds
-    /// are requested.
+    /// Returns whether the client accepts actions that aren't commands, and inlining is of a
+    /// requested kind or no kinds are requested.
     fn wants_inlining(&self) -> bool
         ensures { result ≡ wants self.now.client (kinds_seen self.now.only.now) }
     {
         self.client.takes_literal_actions && allows_inlining(self.only)
     }
 
-    /// Returns the answer that lists the offered actions: first inlining at this use, then inlining everywhere.
+    /// Returns the answer that lists the offered actions: first inlining at this use, then inlining
+    /// everywhere.
     fn list(&self, alloc: Global, version: i64, found: &Inlinings) -> Result<Vec<u8>, AllocError>
         ensures { IfOk result (λ bytes. Writes (result_message (id_data self.now.id.now)
             (actions_value (actions_requested self.now version)

@@ -1,8 +1,8 @@
 //! Makes the diagnostics of a text, and their publication.
 //!
-//! The offsets of all starts and ends are sorted, and their positions are found in one pass (`TextStore::positions`).
-//! Each position is then looked up by binary search. If the look-up fails, the store computes the position, so the
-//! proof doesn't need that it succeeds.
+//! The offsets of all starts and ends are sorted, and their positions are found in one pass
+//! (`TextStore::positions`). Each position is then looked up by binary search. If the look-up
+//! fails, the store computes the position, so the proof doesn't need that it succeeds.
 
 ghost use Rattle.std.specs.Prelude.{◌≡◌, List, IfOk, map};
 ghost use Rattle.std.specs.Str.{chars};
@@ -111,7 +111,8 @@ fn list_diagnostics<T: TextStore>(
     Ok(list)
 }
 
-/// Returns the position of a byte offset, from the positions of a list of offsets if it is found there.
+/// Returns the position of a byte offset, from the positions of a list of offsets if it is found
+/// there.
 fn position_at<T: TextStore>(
     store: &T,
     offsets: &[usize],

@@ -1,7 +1,8 @@
-//! Answers requests about the name or field at a position: hover, definition, references and prepareRename.
+//! Answers requests about the name or field at a position: hover, definition, references and
+//! prepareRename.
 //!
-//! Each request is a type that answers from a document (`DocumentRequest`). Its question about the module is another
-//! type, a `Question`.
+//! Each request is a type that answers from a document (`DocumentRequest`). Its question about the
+//! module is another type, a `Question`.
 
 ghost use Rattle.std.specs.Prelude.{◌≡◌, IfOk, option_map, map};
 ghost use Rattle.serde_json.specs.Data.{array};
@@ -264,8 +265,8 @@ fn range_or_null<T: TextStore>(
     }
 }
 
-/// Returns the answer that lists spans as locations in a document. If the spans are in text order, one pass over the
-/// text finds their positions.
+/// Returns the answer that lists spans as locations in a document. If the spans are in text order,
+/// one pass over the text finds their positions.
 fn locations<T: TextStore>(
     alloc: Global,
     id: &Id,

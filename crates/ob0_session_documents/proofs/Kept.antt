@@ -42,7 +42,8 @@ pub promoted_in : (document : List ℕ) (old new : LruCache (String Global) (Lis
 promoted_in document old new is u t h =
     (h.0, Contains-promoted (is_uri document) old.entries (h.0, t) (subst (λ l. Contains l (h.0, t)) is h.1), h.2)
 
--- After the entry of a uri was removed, every entry of the cache was in it before and has another uri.
+-- After the entry of a uri was removed, every entry of the cache was in it before and has another
+-- uri.
 pub left_in : (uri : List ℕ) (old new : LruCache (String Global) (List ℕ)) → IsDistinct string_eq (keys_of old.entries) → new.entries ≡ remove_entry (is_uri uri) old.entries
     → (u text : List ℕ) → IsIn (Some new) u text → IsIn (Some old) u text × (u ≡ uri → ⊥)
 left_in uri old new distinct is u text h =

@@ -1,4 +1,5 @@
--- Proves that a change of one document leaves the other documents, and their kept analyses, unchanged.
+-- Proves that a change of one document leaves the other documents, and their kept analyses,
+-- unchanged.
 use Rattle.std.proofs.Common.{◌≡◌, ◌∙◌, ℕ, ℤ, true, false, cond, List, Option, Some, None, refl, ap}
 use Rattle.std.specs.Ordering.{nat_cmp, eq_by_cmp}
 use Rattle.std.specs.Cmp.Lexicographic.{slice_cmp, nat_list_cmp_total}
@@ -48,8 +49,8 @@ lost_elsewhere old new uri is u other = ap (λ d. document_at d u) is ∙ update
 pub closed_elsewhere : (old new : OpenDocuments) (uri : List ℕ) → new ≡ closed old uri → AgreesElsewhere old uri new
 closed_elsewhere old new uri is u other = ap (λ d. document_at d u) is ∙ removed old.by_uri uri u other
 
--- If the analysis of a document was removed and only that document changed, each kept analysis is of the current text
--- of its document.
+-- If the analysis of a document was removed and only that document changed, each kept analysis is
+-- of the current text of its document.
 pub still_theirs : (old new : OpenDocuments) (before after : Analyses) (uri : List ℕ)
     → AreOfTheirTexts old before → KeepsOthers before uri after → AgreesElsewhere old uri new → AreOfTheirTexts new after
 still_theirs old new before after uri theirs others agrees u text kept =

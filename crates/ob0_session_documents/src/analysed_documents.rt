@@ -1,10 +1,10 @@
 //! Keeps the open documents, and analyses of those that were changed or asked about most recently.
 //!
-//! The model is the model of the documents, so `ServerState` and all promises are the same as without analyses. The
-//! invariant says that each kept analysis is of the current text of its document (`AreOfTheirTexts` of
-//! `specs/KeptAnalyses`). Before a document changes, its analysis is removed (`still_theirs` of
-//! `proofs/OtherDocuments`). Afterwards the analysis of the new text is added. No texts are compared. One notification
-//! causes one analysis, however many changes it has.
+//! The model is the model of the documents, so `ServerState` and all promises are the same as
+//! without analyses. The invariant says that each kept analysis is of the current text of its
+//! document (`AreOfTheirTexts` of `specs/KeptAnalyses`). Before a document changes, its analysis is
+//! removed (`still_theirs` of `proofs/OtherDocuments`). Afterwards the analysis of the new text is
+//! added. No texts are compared. One notification causes one analysis, however many changes it has.
 
 ghost use Rattle.std.specs.Prelude.{◌≡◌, ◌⊎◌, IfSome, IfOk, OnOk, OnErr, is_some, map, string_bytes};
 ghost use Rattle.std.specs.Str.{chars};
@@ -18,8 +18,9 @@ use ob0_text::{Change, Documents, Held, TextStore};
 use std::alloc::{AllocError, Global};
 use std::marker::Model;
 
-/// The open documents, and analyses of their texts. Contracts see only the documents. A kept analysis is always of the
-/// current text of its document, because each change first removes the analysis of the previous text.
+/// The open documents, and analyses of their texts. Contracts see only the documents. A kept
+/// analysis is always of the current text of its document, because each change first removes the
+/// analysis of the previous text.
 #[derive(Drop)]
 pub struct AnalysedDocuments<T: TextStore> {
     alloc: Global,
@@ -59,9 +60,9 @@ impl<T: TextStore> AnalysedDocuments<T> {
         &self.documents
     }
 
-    /// Opens a document and analyses its text. If the document is already open, its version and text are replaced. The
-    /// received text is dropped before the analysis. If an allocation fails, either nothing has changed or the document
-    /// has been opened with this text.
+    /// Opens a document and analyses its text. If the document is already open, its version and
+    /// text are replaced. The received text is dropped before the analysis. If an allocation fails,
+    /// either nothing has changed or the document has been opened with this text.
     pub fn did_open(&mut self, uri: &str, version: i64, text: String) -> Result<(), AllocError>
         ensures ok { OnOk result
             (self.new ≡ opened self.old uri.now version (chars (string_bytes text))) }
@@ -74,8 +75,9 @@ impl<T: TextStore> AnalysedDocuments<T> {
         self.analyse(uri, before)
     }
 
-    /// Applies the changes in order, and analyses the resulting text. The received changes are dropped before the
-    /// analysis. If an allocation fails, either the document is out of step or all changes have been applied.
+    /// Applies the changes in order, and analyses the resulting text. The received changes are
+    /// dropped before the analysis. If an allocation fails, either the document is out of step or
+    /// all changes have been applied.
     pub fn did_change(
         &mut self,
         uri: &str,
@@ -110,8 +112,9 @@ impl<T: TextStore> AnalysedDocuments<T> {
         self.documents.did_close(uri)
     }
 
-    /// Answers a request about the document with this uri. If an analysis of its text is kept, that one is used;
-    /// otherwise a new one is made and kept. If the document isn't open or is out of step, the outcome says so.
+    /// Answers a request about the document with this uri. If an analysis of its text is kept, that
+    /// one is used; otherwise a new one is made and kept. If the document isn't open or is out of
+    /// step, the outcome says so.
     pub fn ask<Q: DocumentRequest<T>>(
         &mut self,
         uri: &str,
@@ -137,8 +140,8 @@ impl<T: TextStore> AnalysedDocuments<T> {
         }
     }
 
-    /// Analyses the text of a document and keeps the result. The analysis of its previous text, if there is one, is
-    /// reused. If the document isn't open or is out of step, nothing happens.
+    /// Analyses the text of a document and keeps the result. The analysis of its previous text, if
+    /// there is one, is reused. If the document isn't open or is out of step, nothing happens.
     fn analyse(&mut self, uri: &str, before: Option<Analysis>) -> Result<(), AllocError>
         ensures { self.new ≡ self.old }
     {

@@ -1,8 +1,9 @@
 //! Keeps the analyses of the documents that were changed or asked about most recently.
 //!
-//! The contracts state only one direction: every analysis that is kept after a call was kept before (`KeepsOnly`), was
-//! kept before for another document (`KeepsOthers`), or is the added one (`KeepsAlso`). Code that drops more analyses
-//! meets them as well. `put` drops the least recently used analyses if the total size is too large.
+//! The contracts state only one direction: every analysis that is kept after a call was kept before
+//! (`KeepsOnly`), was kept before for another document (`KeepsOthers`), or is the added one
+//! (`KeepsAlso`). Code that drops more analyses meets them as well. `put` drops the least recently
+//! used analyses if the total size is too large.
 
 ghost use Rattle.std.specs.Prelude.{◌≡◌, ◌∷◌, ◌≤◌, [], IfSome, IfOk};
 ghost use Rattle.ob0_session_documents.specs.KeptAnalyses.{KeepsAnalysis, KeepsAlso, KeepsOnly, KeepsOthers};
@@ -11,12 +12,12 @@ use lru::LruCache;
 use ob0_analysis::Analysis;
 use std::alloc::{AllocError, Global};
 
-/// The greatest total size of several kept analyses, in bytes: about four analyses of the longest texts. A single
-/// analysis may be larger.
+/// The greatest total size of several kept analyses, in bytes: about four analyses of the longest
+/// texts. A single analysis may be larger.
 const MAX_BYTES: usize = 4_198_400;
 
-/// The number of bytes that each analysis counts for, in addition to the bytes of its uri and of its data. This also
-/// bounds the number of analyses of empty texts.
+/// The number of bytes that each analysis counts for, in addition to the bytes of its uri and of
+/// its data. This also bounds the number of analyses of empty texts.
 const BYTES_PER_ANALYSIS: usize = 1_024;
 
 /// Analyses of texts, by the uris of their documents. An added analysis may be dropped at any time.
@@ -71,8 +72,8 @@ impl Analyses {
         }
     }
 
-    /// Keeps the analysis of a document. If the total size is too large, the least recently used analyses are dropped.
-    /// An analysis that is too large by itself is kept as the only one.
+    /// Keeps the analysis of a document. If the total size is too large, the least recently used
+    /// analyses are dropped. An analysis that is too large by itself is kept as the only one.
     pub fn put(&mut self, uri: &str, analysis: Analysis) -> Result<(), AllocError>
         ensures { KeepsAlso self.old uri.now analysis self.new }
     {
@@ -93,8 +94,8 @@ impl Analyses {
         Ok(())
     }
 
-    /// Adds this many bytes to the total, and drops the least recently used analyses until the total is within the
-    /// bound or none is left.
+    /// Adds this many bytes to the total, and drops the least recently used analyses until the
+    /// total is within the bound or none is left.
     fn free(&mut self, bytes: usize)
         ensures { KeepsOnly self.old self.new }
     {
@@ -116,7 +117,8 @@ impl Analyses {
     }
 }
 
-/// Returns the number of bytes that an analysis counts for. Its uri is included, because the cache stores its own copy.
+/// Returns the number of bytes that an analysis counts for. Its uri is included, because the cache
+/// stores its own copy.
 fn bytes_of(uri: &str, analysis: &Analysis) -> usize
     ensures { BYTES_PER_ANALYSIS ≤ result }
 {

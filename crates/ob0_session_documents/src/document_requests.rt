@@ -10,8 +10,8 @@ use std::alloc::{AllocError, Global};
 
 /// A request about a document that is in step.
 pub trait DocumentRequest<T: TextStore> {
-    /// Holds if these bytes answer the request for a document with this version, unit of positions and text (in
-    /// characters).
+    /// Holds if these bytes answer the request for a document with this version, unit of positions
+    /// and text (in characters).
     ghost answers: { Self → ℤ → Unit → List ℕ → List ℕ → Type 0 };
 
     fn answer(

@@ -27,8 +27,8 @@ module _ (uri : List ℕ) (range : Range) (at : ℕ) (before buffer : List ℕ) 
   text_put true old new is = is ∙ ap (λ t. old ++ t) whole
   text_put false old new is = is ∙ ap (λ t. old ++ t) (sym (drop-drop 1 at buffer) ∙ ap (drop 1) whole)
 
-  -- Appending a location's text from such a buffer, with or without its comma, appends that location as an item of a
-  -- list.
+  -- Appending a location's text from such a buffer, with or without its comma, appends that
+  -- location as an item of a list.
   pub location_put : (later : Bool) (old new : List ℕ) → IsReadBack (range_value range.start range.end) → new ≡ old ++ drop (if later then at else at + 1) buffer → AppendsItem later (location_in uri range) old new
   location_put later old new reads is = record {
     text = text_put later old new is;

@@ -1,4 +1,5 @@
--- Defines the messages that the server writes, as JSON values. Members are in byte order of their names.
+-- Defines the messages that the server writes, as JSON values. Members are in byte order of their
+-- names.
 -- Rule: docs/PROTOCOL.md, JSON shapes 2, Capabilities.
 use Rattle.std.specs.Prelude.{ℕ, ℤ, List, true, Bool, Option, Some, None, if◌then◌else◌, codes, map}
 use Rattle.serde_json.specs.Data.{Data, boolean, number, array, object, unsigned, Members, member, no_members, item, no_items}
@@ -17,7 +18,8 @@ synchronisation =
     object (member (codes "change") (number (unsigned 2))
     (member (codes "openClose") (boolean true) no_members))
 
--- Returns {"prepareProvider":true} for a client that sends `prepareRename` before it requests a rename, otherwise true.
+-- Returns {"prepareProvider":true} for a client that sends `prepareRename` before it requests a
+-- rename, otherwise true.
 abbrev pub rename_provider : Bool → Data
 rename_provider prepares =
     if prepares
@@ -30,7 +32,8 @@ action_provider =
     object (member (codes "codeActionKinds")
     (array (item (text (codes "refactor.inline")) no_items)) no_members)
 
--- Returns the last members of the capabilities: "referencesProvider":true,"renameProvider":R,"textDocumentSync":{..}.
+-- Returns the last members of the capabilities:
+-- "referencesProvider":true,"renameProvider":R,"textDocumentSync":{..}.
 abbrev pub last_members : Client → Members
 last_members client =
     member (codes "referencesProvider") (boolean true) (member (codes "renameProvider")
@@ -38,8 +41,8 @@ last_members client =
     (member (codes "textDocumentSync") synchronisation no_members))
 
 -- Returns the members of the capabilities after "definitionProvider":
--- "documentFormattingProvider":true,"hoverProvider":true, then "positionEncoding":"utf-8" if the client offers that,
--- then the last members.
+-- "documentFormattingProvider":true,"hoverProvider":true, then "positionEncoding":"utf-8" if the
+-- client offers that, then the last members.
 abbrev pub further_members : Client → Members
 further_members client =
     member (codes "documentFormattingProvider") (boolean true)
@@ -48,8 +51,8 @@ further_members client =
     then member (codes "positionEncoding") (text (codes "utf-8")) (last_members client)
     else last_members client))
 
--- Returns the server's capabilities: "codeActionProvider":{..} if the client accepts actions that aren't commands, then
--- "definitionProvider":true and the further members.
+-- Returns the server's capabilities: "codeActionProvider":{..} if the client accepts actions that
+-- aren't commands, then "definitionProvider":true and the further members.
 abbrev pub server_capabilities : Client → Data
 server_capabilities client =
     let members = member (codes "definitionProvider") (boolean true) (further_members client) in
@@ -118,7 +121,8 @@ workspace_edit client uri version es =
     else object
     (member (codes "changes") (object (member uri (edits_value es) no_members)) no_members)
 
--- Returns a code action from the JSON value of its edits and its title, {"edit":W,"kind":"refactor.inline","title":t}.
+-- Returns a code action from the JSON value of its edits and its title,
+-- {"edit":W,"kind":"refactor.inline","title":t}.
 abbrev pub action_value : Data → List ℕ → Data
 action_value edit title =
     object (member (codes "edit") edit (member (codes "kind") (text (codes "refactor.inline"))
@@ -140,8 +144,8 @@ diagnostic_value d =
 abbrev pub diagnostics_value : List Diagnostic → Data
 diagnostics_value ds = array (items_of (map diagnostic_value ds))
 
--- Returns the params of a publication, {"diagnostics":[D,..],"uri":u,"version":v}. After a close the version is None,
--- and `version` is left out.
+-- Returns the params of a publication, {"diagnostics":[D,..],"uri":u,"version":v}. After a close
+-- the version is None, and `version` is left out.
 abbrev pub publication_params : List ℕ → Option ℤ → List Diagnostic → Data
 publication_params uri (Some version) ds =
     object (member (codes "diagnostics") (diagnostics_value ds) (member (codes "uri") (text uri)

@@ -1,4 +1,5 @@
-//! Writes results as JSON (docs/PROTOCOL.md, JSON shapes): capabilities, diagnostics, locations, edits and actions.
+//! Writes results as JSON (docs/PROTOCOL.md, JSON shapes): capabilities, diagnostics, locations,
+//! edits and actions.
 #![tactic(auto)]
 
 pub mod capabilities;

@@ -18,7 +18,8 @@ use std::alloc::{AllocError, Global};
 /// The number of bytes reserved for a location's text before its uri, which is never longer.
 const PREFIX_CAPACITY: usize = 192;
 
-/// The number of bytes that a location's text before its uri usually fits in. It is used to reserve room.
+/// The number of bytes that a location's text before its uri usually fits in. It is used to reserve
+/// room.
 const TYPICAL_PREFIX: usize = 96;
 
 /// A location: a range of the document with this uri.
@@ -74,8 +75,8 @@ fn write_locations(out: &mut Vec<u8>, uri: &str, ranges: &[Range]) -> Result<(),
     Ok(())
 }
 
-/// Returns a buffer in which the text of each location is built. The text after the range is written once, after 192
-/// bytes of free space for the text before it.
+/// Returns a buffer in which the text of each location is built. The text after the range is
+/// written once, after 192 bytes of free space for the text before it.
 fn buffer_for_uri(alloc: Global, uri: &str) -> Result<Vec<u8>, AllocError>
     ensures { IfOk result (λ buffer. EndsInUri uri.now buffer.items) }
 {
@@ -85,8 +86,8 @@ fn buffer_for_uri(alloc: Global, uri: &str) -> Result<Vec<u8>, AllocError>
     Ok(buffer)
 }
 
-/// Writes a comma and the start of a location's text, including its range, right before the text that follows the
-/// range. Returns the index in the buffer at which the comma is.
+/// Writes a comma and the start of a location's text, including its range, right before the text
+/// that follows the range. Returns the index in the buffer at which the comma is.
 fn location_before(buffer: &mut [u8], range: Range) -> usize
     requires { 192 ≤ length buffer.old }
     ensures within { result < 192 }

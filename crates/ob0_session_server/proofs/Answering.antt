@@ -39,7 +39,8 @@ refused before content Memory sent reads apart h = absurd (apart refl)
 refused before content UnknownMethod sent reads apart h = absurd reads.2
 refused before content BadParams sent reads apart h = absurd reads.2
 
--- If a request's params can't be read or its method isn't known, the server's refusal is the right reaction.
+-- If a request's params can't be read or its method isn't known, the server's refusal is the right
+-- reaction.
 pub request_refused : (s : ServerState) (id : Data) (requested : Result ClientRequest RpcFault) (fault : RpcFault) (sent : Option (Vec ℕ Global))
     → Requests requested (Err fault) → fault ≢ Memory → Reacts (refuses_fault s id fault) sent s
     → Reacts (answer_request s id requested) sent s
@@ -82,7 +83,8 @@ publishes before after uri reported held sent same is said =
     let Q : OpenDocuments → Type 0 = λ h. SaysReply (published h.unit reported (document_at h reported)) (option_to_list (option_map (λ v. v.items) sent)) in
     (is, subst P same (subst Q (ap (λ (s : ServerState). s.held) is) said))
 
--- The outcome of asking the documents gives the defined reply, if the other fields of the server are unchanged.
+-- The outcome of asking the documents gives the defined reply, if the other fields of the server
+-- are unchanged.
 pub replies_about : (phase : Phase) (client : Client) (old new : OpenDocuments) (s : ServerState) (id : Data) (uri : List ℕ) (answers : ℤ → Unit → List ℕ → List ℕ → Type 0)
     → (outcome : RequestOutcome) (sent : Option (Vec ℕ Global)) → record { phase = phase; client = client; held = old } ≡ s → new ≡ old → ComesOfRequest answers old uri outcome
     → RepliesWith id outcome sent → RepliesAbout answers s id uri sent (record { phase = phase; client = client; held = new })
@@ -90,7 +92,8 @@ replies_about phase client old new s id uri answers outcome sent is same comes r
     let P : ServerState → Type 0 = λ t. RepliesAbout answers t id uri sent (record { phase = phase; client = client; held = new }) in
     subst P is (ap (λ held. record { phase = phase; client = client; held = held }) same, (outcome, comes, replies))
 
--- If each answer about the text is the reply for that text, the messages sent for a request are the defined reaction.
+-- If each answer about the text is the reply for that text, the messages sent for a request are the
+-- defined reaction.
 pub reacts_about : (s new : ServerState) (id : Data) (uri : List ℕ) (say : ℤ → List ℕ → Reply) (answers : ℤ → Unit → List ℕ → List ℕ → Type 0) (sent : Option (Vec ℕ Global))
     → ((version : ℤ) (text message : List ℕ) → answers version s.held.unit text message → SaysReply (say version text) (message ∷ []))
     → RepliesAbout answers s id uri sent new → Reacts (answers_about s id (document_at s.held uri) say) sent new

@@ -19,8 +19,8 @@ SendsReply reply sent = SaysReply reply (option_to_list (option_map (λ v. v.ite
 abbrev pub Reacts : Reaction → Option (Vec ℕ Global) → ServerState → Type 0
 Reacts r sent new = (new ≡ r.after) × SendsReply r.say sent
 
--- Holds if the message is the reply for this outcome of a request about a document: the outcome's own message, or a
--- refusal.
+-- Holds if the message is the reply for this outcome of a request about a document: the outcome's
+-- own message, or a refusal.
 abbrev pub RepliesWith : Data → RequestOutcome → Option (Vec ℕ Global) → Type 0
 RepliesWith id (Answered message) sent = sent ≡ Some message
 RepliesWith id OutOfStep sent = SendsReply (says (edit_refused id (codes "out of step"))) sent
@@ -32,7 +32,8 @@ message_of (Answered message) = Some message
 message_of OutOfStep = None
 message_of Unopened = None
 
--- Holds if the request about the document with this uri is answered or refused, and the state is unchanged.
+-- Holds if the request about the document with this uri is answered or refused, and the state is
+-- unchanged.
 abbrev pub RepliesAbout : (ℤ → Unit → List ℕ → List ℕ → Type 0)
     → ServerState
     → Data

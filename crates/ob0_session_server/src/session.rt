@@ -1,4 +1,5 @@
-//! Keeps the state of a session, and answers messages according to its phase (docs/PROTOCOL.md, Lifecycle).
+//! Keeps the state of a session, and answers messages according to its phase (docs/PROTOCOL.md,
+//! Lifecycle).
 ghost use Rattle.std.specs.Prelude.{◌≡◌, ◌≢◌, Ok, IfOk, IfErr, map, option_map, string_bytes};
 ghost use Rattle.ob0_rpc.specs.Seen.{id_data};
 ghost use Rattle.ob0_text.specs.OpenDocuments.{none_open};
@@ -49,7 +50,8 @@ pub struct Step {
     pub next: Next,
 }
 
-/// The reason why a step has no answer: an allocation failed in this step (`Memory`) or in an earlier one (`Failed`).
+/// The reason why a step has no answer: an allocation failed in this step (`Memory`) or in an
+/// earlier one (`Failed`).
 #[derive(Clone, Copy, Debug, Drop, PartialEq, Eq, Error)]
 pub enum SessionFault {
     #[error("Memory")]
@@ -91,7 +93,8 @@ impl<T: TextStore> Session<T> {
     ghost use Rattle.std.specs.Str.{chars};
     ghost use Rattle.ob0_text.specs.OpenDocuments.{change_in_text, document_at};
 
-    /// Returns a session before `initialize`. No document is open, and positions are counted in UTF-16 units.
+    /// Returns a session before `initialize`. No document is open, and positions are counted in
+    /// UTF-16 units.
     pub fn new(alloc: Global) -> Session<T>
         ensures { result ≡ start }
     {
@@ -116,8 +119,8 @@ impl<T: TextStore> Session<T> {
         self.documents.documents()
     }
 
-    /// Reads the content of one message, and returns the answers to it. If an allocation fails, the session has failed,
-    /// and every later step returns `Failed`.
+    /// Reads the content of one message, and returns the answers to it. If an allocation fails, the
+    /// session has failed, and every later step returns `Failed`.
     pub fn step(&mut self, content: &[u8]) -> Result<Step, SessionFault>
         ensures ok { IfOk result (λ step. SessionSteps self.old content.now step self.new) }
         ensures err { IfErr result (λ fault. SessionFails self.old fault self.new) }
@@ -193,8 +196,8 @@ impl<T: TextStore> Session<T> {
         Ok(Some(error(self.alloc, id, code, said)?))
     }
 
-    /// Answers that a message can't be read or isn't known, and why. If the reason is a failed allocation, returns that
-    /// error instead.
+    /// Answers that a message can't be read or isn't known, and why. If the reason is a failed
+    /// allocation, returns that error instead.
     fn refuse_fault(&self, id: Option<&Id>, fault: RpcFault) -> Result<Option<Vec<u8>>, AllocError>
         ensures { IfOk result (λ sent. (fault ≢ RpcFault.Memory) × Reacts
             (refuses_fault self.now (id_or_null (option_map (λ i. i.now) id.entry)) fault) sent
@@ -342,8 +345,8 @@ impl<T: TextStore> Session<T> {
         self.ask(id, uri, &request)
     }
 
-    /// Returns the answer to a request about the document with this uri, or the refusal if that document isn't open or
-    /// is out of step.
+    /// Returns the answer to a request about the document with this uri, or the refusal if that
+    /// document isn't open or is out of step.
     fn ask<Q: DocumentRequest<T>>(
         &mut self,
         id: &Id,
@@ -473,7 +476,8 @@ impl<T: TextStore> Session<T> {
         Ok(Some(publication(self.alloc, uri, None, none)?))
     }
 
-    /// Returns the publication of a document's diagnostics, or None if the document isn't open or is out of step.
+    /// Returns the publication of a document's diagnostics, or None if the document isn't open or
+    /// is out of step.
     fn publish(&mut self, uri: &str) -> Result<Option<Vec<u8>>, AllocError>
         ensures same { self.new ≡ self.old }
         ensures says { IfOk result (λ sent. SaysReply
@@ -511,8 +515,8 @@ fn message_of(outcome: RequestOutcome) -> Option<Vec<u8>>
     }
 }
 
-/// Returns documents of which none is open. Positions are counted in bytes of UTF-8 if the client offers that,
-/// otherwise in UTF-16 units.
+/// Returns documents of which none is open. Positions are counted in bytes of UTF-8 if the client
+/// offers that, otherwise in UTF-16 units.
 fn documents_for<T: TextStore>(alloc: Global, client: Client) -> Documents<T>
     ensures { result ≡ none_open (unit_for client) }
 {
