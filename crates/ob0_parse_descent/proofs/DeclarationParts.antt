@@ -1,4 +1,4 @@
--- Declarations: reading them and refusing them.
+-- Proves that declarations are read and refused correctly.
 use Rattle.std.proofs.Common.{◌≡◌, ◌≢◌, ℕ, Bool, true, false, ◌+◌, ◌<◌, ◌≤◌, List, [], ◌∷◌, ◌++◌, length, refl, sym, ◌∙◌, ap, subst, arith, append_assoc, if◌then◌else◌}
 use Rattle.ob0_scan.specs.declared.lexeme.TokenKind.{TokenKind}
 use Rattle.ob0_scan.specs.declared.lexeme.TokenKind.TheVariants as kind
@@ -26,7 +26,7 @@ use Rattle.ob0_parse_descent.proofs.Apart.{name_not_mark}
 
 -- section = [VAR] names ":" type
 
--- if names, a colon and a type were read as fields, the descent reads them
+-- If names, a colon and a type were read as a group of fields, the descent reads these three parts.
 typed_read : {room : ℕ} {ts : List Token} {at n : ℕ} (ns : Tree ℕ names) (t : Tree ℕ written_type) → Taken (some_fields ns t) room ts at n → ReadAs (typed_following room) [] ts at n
 typed_read {room = room} ns t p = read_back (chosen_fields room ns _ (p.spelled ∙ append_assoc (spell ns) _ _)) p.reads
 
@@ -62,7 +62,7 @@ variable_section_fails {room = room} here q = fails_following {qs = typed_follow
 abbrev pub formals_following : ℕ → List Part
 formals_following room = node section room ∷ node (items further_section) room ∷ token (kind.Symbol symbol.RightParen) ∷ []
 
--- the production that the token after `(` determines
+-- The token after `(` determines the production of formal parameters.
 formals_read : {room : ℕ} {ts : List Token} {at : ℕ} {b : Bool} → is_section_next (rest ts (at + 1)) ≡ b → rest ts at ≡ Mark (kind.Symbol symbol.LeftParen) ∷ rest ts (at + 1) → ReadAs (node (item formals) room ∷ []) (if b then formals_following room else token (kind.Symbol symbol.RightParen) ∷ []) ts at (at + 1)
 formals_read {room = room} {b = true} e here = read_led (formals_following room) (ap (λ c. if c then parts (sign symbol.LeftParen ∷ formals_following room) else parts (sign symbol.LeftParen ∷ sign symbol.RightParen ∷ [])) e) here
 formals_read {room = room} {b = false} e here = read_led (token (kind.Symbol symbol.RightParen) ∷ []) (ap (λ c. if c then parts (sign symbol.LeftParen ∷ formals_following room) else parts (sign symbol.LeftParen ∷ sign symbol.RightParen ∷ [])) e) here
@@ -72,7 +72,8 @@ no_section (Name n) w p o = absurd (p refl)
 no_section (Mark (kind.Reserved reserved.Var)) w p o = absurd (o refl)
 no_section x w p o = refl
 
--- the answers of `section_may_begin`
+-- If an identifier is next, a section of formal parameters may begin. The next lemmas prove the
+-- other answers of `section_may_begin`.
 pub name_is_section : (ts : List Token) (at : ℕ) → NameIs ts at true → SectionMayBegin ts at true
 name_is_section ts at h = (record { fault = Name at; here = h.0; differs = λ e. cc; within = omega (arith, h.1) }, ap is_section_next h.0)
 
@@ -306,7 +307,7 @@ module_begins w (is_module x b y, z, e, n, s, q) =
 pub module_fails : {ts : List Token} {e : ParseRefusal} → FailsToRead module_parts ts 0 e → FailsToRead (node module_text 100 ∷ finish ∷ []) ts 0 e
 module_fails q = fails_weaken {qs = module_parts} (record { on = λ o more r. made _ refl r }) (λ w h b. module_begins w b) q
 
--- a token isn't the end of the text
+-- A token isn't the end of the text.
 not_end : (i : ℕ) (k : TokenKind) → lexeme_of i k ≡ EndOfText → ⊥
 not_end i kind.Identifier e = cc
 not_end i (kind.Integer _) e = cc

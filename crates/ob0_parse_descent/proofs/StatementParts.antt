@@ -1,4 +1,4 @@
--- Statements: reading them and refusing them.
+-- Proves that statements are read and refused correctly.
 use Rattle.std.proofs.Common.{◌≡◌, ◌≢◌, ℕ, ◌+◌, ◌<◌, List, [], ◌∷◌, ◌++◌, length, refl, sym, ◌∙◌, ap, subst, arith, append_assoc}
 use Rattle.ob0_scan.specs.declared.lexeme.TokenKind.{TokenKind}
 use Rattle.ob0_scan.specs.declared.lexeme.TokenKind.TheVariants as kind
@@ -18,7 +18,7 @@ use Rattle.ob0_parse_descent.proofs.Refusals.{fails_weaken, fails_following}
 use Rattle.ob0_parse_descent.proofs.Expressions.{joined, head_at, too_deep_at_once}
 use Rattle.ob0_parse_descent.proofs.Apart.{name_not_mark}
 
--- two lists begin with the same token
+-- If two lists begin with the same token, their first tokens are equal.
 pub alike : {xs w : List (Terminal ℕ)} {x y : Terminal ℕ} {a b : List (Terminal ℕ)} → SameHead xs w → xs ≡ x ∷ a → w ≡ y ∷ b → x ≡ y
 alike h p q = head_of (sym p ∙ h.is) ∙ head_of (sym h.alike ∙ q)
 
@@ -39,7 +39,7 @@ runs_parts room w (runs a c, z, e, n, p, b) = (a, spell c ++ z, e ∙ append_ass
 pub sequence_fails : {room : ℕ} {ts : List Token} {at : ℕ} {e : ParseRefusal} → FailsToRead (node statement room ∷ node (items further_statement) room ∷ []) ts at e → FailsToRead (node sequence room ∷ []) ts at e
 sequence_fails {room = room} q = fails_weaken {qs = node statement room ∷ node (items further_statement) room ∷ []} (read_made refl) (λ w h b. runs_parts room w b) q
 
--- the empty statement
+-- Proves that the empty statement is read correctly.
 
 empty_only : {ts : List Token} {at : ℕ} → NoName ts at → Other (Mark (kind.Reserved reserved.If)) ts at → Other (Mark (kind.Reserved reserved.While)) ts at → Other (Mark (kind.Reserved reserved.Repeat)) ts at → (u : Tree ℕ statement) (z w : List (Terminal ℕ)) → SameHead (rest ts at) w → Stops 8 z → spell u ++ z ≡ w → (u ≡ empty) × (z ≡ w)
 empty_only unnamed i l r empty z w h s e = (refl, e)
@@ -226,7 +226,7 @@ repeat_parts room inner d w (repeat_loop t c, z, e, n, s, b) = (
 pub repeat_fails : {room inner : ℕ} {ts : List Token} {at : ℕ} {e : ParseRefusal} → room ≡ inner + 1 → rest ts at ≡ Mark (kind.Reserved reserved.Repeat) ∷ rest ts (at + 1) → FailsToRead (repeat_following inner) ts (at + 1) e → FailsToRead (node statement room ∷ []) ts at e
 repeat_fails {room = room} {inner = inner} d here q = fails_following {qs = repeat_following inner} (read_opened inner repeat_following refl d here) here (repeat_parts room inner d) q
 
--- no level is left for the construct that this word opens
+-- If no level is left for the construct that this word opens, the refusal `TooDeep` is right.
 pub too_deep : {ts : List Token} {at room : ℕ} {e : ParseRefusal} (k : TokenKind) → ((w : List (Terminal ℕ)) → chosen statement 0 (Mark k ∷ w) ≡ descent.too_deep) → ((w : List (Terminal ℕ)) → Begins (node statement 0 ∷ []) (Mark k ∷ w) → ⊥) → at < length ts → (room ≡ 0) × (e ≡ TooDeep at) → rest ts at ≡ Mark k ∷ rest ts (at + 1) → FailsToRead (node statement room ∷ []) ts at e
 too_deep {ts = ts} {at = at} {e = e} k full never l o here = subst (λ r. FailsToRead (node statement r ∷ []) ts at e) (sym o.0) (too_deep_at_once l o.1 here (λ more. descent.deep (ap (λ w. chosen statement 0 w) here ∙ full (rest ts (at + 1)))) never)
 
