@@ -36,7 +36,7 @@ simple_and_free = refl
 
 -- ---- the subcommands
 
--- Holds if words without a fault give this subcommand all the arguments that it needs.
+-- Holds if words that have no fault give this subcommand all the arguments that it needs.
 abbrev Needs : Shape → Type 0
 Needs s = (words : List Text) → level_fault s [] nothing_held words false [] ≡ [] → NeedsAt s.name (rows_after s.rules [] words)
 
@@ -190,7 +190,7 @@ entered_needs (Some p) other e there = go (find (λ s. answers_to p.0 (label_of 
         let found = found_of NeedsNamed subs all_need (λ s. answers_to p.0 (label_of s)) s is in
         (s.name, rows_after s.rules [] p.1, refl, found.0 p.0 found.1 other p.1 e)
 
--- If words without a fault select a subcommand, it has all the arguments that it needs.
+-- If words that have no fault select a subcommand, it has all the arguments that it needs.
 words_need : (words : List Text) → fault_of ob0_app words ≡ [] → is_some (subcommand_of ob0_app words) ≡ true → HasNeeded (subcommand_of ob0_app words)
 words_need words e there =
     let top = (built ob0_app).top in
@@ -213,7 +213,7 @@ mapped_some : {A B : Type 0} (f : A → B) (o : Option A) → is_some o ≡ true
 mapped_some f None e = e
 mapped_some f (Some a) e = refl
 
--- After a parse without a fault, clap's matches have the subcommand that the words select, with all
+-- If the words have no fault, clap's matches have the subcommand that the words select, with all
 -- the arguments that it needs.
 pub parsed : (c : Command) (words : List Text) (m : ArgMatches) → app_of c ≡ ob0_app → fault_of ob0_app words ≡ [] → IsParsedFrom c m → HasMatchesOf (app_of c) words m
     → (subcommand_rows_of m ≡ subcommand_of ob0_app words) × HasNeeded (subcommand_rows_of m)

@@ -1,4 +1,4 @@
--- Proves laws about the values of a subcommand's arguments after a parse without a fault.
+-- Proves laws about the values of a subcommand's arguments if the words have no fault.
 use Rattle.std.proofs.Common.{◌≡◌, ◌⊎◌, ◌∙◌, ◌++◌, ◌&&◌, ◌||◌, Bool, true, false, not, List, [], ◌∷◌, length, is_some, Option, Some, None, refl, sym, ap, subst, inl, inr, arith}
 use Rattle.std.specs.Prelude.{find, fold, if◌then◌else◌, slice_get, option_map, option_and_then}
 use Rattle.std.specs.Option.{option_map_or}
@@ -29,7 +29,7 @@ each_both : {A : Type 0} (P : A → Type 0) (xs ys : List A) → Each P xs → E
 each_both P [] ys p q = q
 each_both P (x ∷ xs) ys p q = (p.0, each_both P xs ys p.1 q)
 
--- If all items of a list satisfy P, so does the item that was found, which also passes the test.
+-- If all items of a list satisfy P, the item that was found satisfies P and passes the test.
 pub found_of : {A : Type 0} (P : A → Type 0) (xs : List A) → Each P xs → (p : A → Bool) (a : A) → find p xs ≡ Some a → P a × (p a ≡ true)
 found_of P [] all p a e = cc
 found_of {A} P (x ∷ xs) all p a e = go (p x) refl e (found_of P xs all.1 p a)
@@ -136,7 +136,7 @@ defaults_kept rules (a ∷ rest) fits rows e k =
 
 -- ---- a subcommand's rows
 
--- Holds if none of the four steps of the subcommand's parse has a fault.
+-- Holds if the four steps of the subcommand's parse have no fault.
 record Fine (s : Shape) (words : List Text) : Type 0 where
   walking : walk_fault s [] (walk_from nothing_held) words ≡ []
   settling : settle_fault s.rules s.args_override_self (walk s.rules [] nothing_held words).held ≡ []

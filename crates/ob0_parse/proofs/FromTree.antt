@@ -102,8 +102,8 @@ last_end ts begun left (p ∷ q ∷ ps) (suc i) n is shallow more count h =
 abbrev ended : ℕ → List (Terminal ℕ)
 ended closing = Mark (kind.Reserved reserved.End) ∷ Name closing ∷ Mark (kind.Symbol symbol.Dot) ∷ EndOfText ∷ []
 
--- Holds if the tokens are those of a module that ends with these procedures, this body and this
--- closing name.
+-- Holds if the tokens are a module's and end with these procedures, this body and this closing
+-- name.
 record HasParts (ts : List Token) (ps : List Procedure) (ss : Option (Vec Statement Global)) (closing : ℕ) : Type 0 where
   begun : List (Terminal ℕ)
   whole : lexemes ts ≡ begun ++ (spell (items_of procedure_of ps) ++ (spell (body_of ss) ++ ended closing))

@@ -105,7 +105,7 @@ in_place (declares_procedure x fs b y) at ks e =
 
 -- ---- trees at their tokens
 
--- If a tree's tokens are at `at..next`, the tree is there with its leaves in place.
+-- If a tree's tokens are at `at..next`, the tree is in place.
 pub kept_there : {s : Sort} (ts : List Token) (at next : ℕ) (t : Tree ℕ s) → drop at (lexemes ts) ≡ spell t ++ drop next (lexemes ts) → nesting t ≤ max_nesting → at < next → next ≤ length ts → IsInPlace ts at next t
 kept_there ts at next t spelled shallow forward within =
     let ks : List TokenKind = slice_range (kinds ts) at next in

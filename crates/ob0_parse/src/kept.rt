@@ -173,7 +173,7 @@ fn keep_made(
     Ok(())
 }
 
-/// Appends a procedure, with its place in the changed text, if its tokens are also there.
+/// Appends a procedure with its place in the changed text, if that text has its tokens.
 fn keep(
     kept: &mut Vec<KeptProcedure>,
     procedure: KeptProcedure,
@@ -187,8 +187,8 @@ fn keep(
     Ok(())
 }
 
-/// Appends a procedure with leaves in place, with its place in the changed text, if its tokens are
-/// also there.
+/// Appends a procedure with leaves in place, with its place in the changed text, if that text has
+/// its tokens.
 fn keep_one_made(
     kept: &mut Vec<KeptProcedure>,
     procedure: Procedure,
@@ -202,8 +202,8 @@ fn keep_one_made(
     Ok(())
 }
 
-/// Returns the body with its place in the changed text, or None if there is none or its tokens
-/// aren't there.
+/// Returns the body with its place in the changed text. Returns None if there is no body or the
+/// changed text doesn't have its tokens.
 fn keep_body(body: Option<KeptBody>, same: SameTokens) -> Option<KeptBody>
     ensures { CarriesAnyBody same body result }
 {
@@ -228,8 +228,8 @@ fn made_at(procedure: Procedure) -> Option<KeptProcedure>
 }
 
 impl KeptProcedure {
-    /// Returns the procedure with its place in the changed text, or None if its tokens aren't
-    /// there.
+    /// Returns the procedure with its place in the changed text, or None if the changed text
+    /// doesn't have its tokens.
     fn after(self, same: SameTokens) -> Option<KeptProcedure>
         ensures { IfSome result (CarriesTo same self) }
     {
@@ -243,7 +243,8 @@ impl KeptProcedure {
 }
 
 impl KeptBody {
-    /// Returns the body with its place in the changed text, or None if its tokens aren't there.
+    /// Returns the body with its place in the changed text, or None if the changed text doesn't
+    /// have its tokens.
     fn after(self, same: SameTokens) -> Option<KeptBody>
         ensures { IfSome result (CarriesBody same self) }
     {
@@ -277,8 +278,8 @@ impl KeptBody {
     }
 }
 
-/// Returns the range in the changed text of the tokens `at..next`, or None if they aren't all
-/// there.
+/// Returns the range of the tokens `at..next` in the changed text, or None if that text doesn't
+/// have all of them.
 fn place_after(at: usize, next: usize, same: SameTokens) -> Option<(usize, usize)>
     ensures { IfSome result (CarriesTokens same at next) }
 {

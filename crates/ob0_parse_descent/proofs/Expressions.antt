@@ -369,8 +369,7 @@ negation_parts room inner d w (negation t, z, e, l, s, b) = (t, z, tail_of e, om
 pub factor_fails_negated : {room inner : ℕ} {ts : List Token} {at : ℕ} {e : ParseRefusal} → room ≡ inner + 1 → rest ts at ≡ Mark (kind.Symbol symbol.Not) ∷ rest ts (at + 1) → FailsToRead (node factor inner ∷ []) ts (at + 1) e → FailsToRead (node factor room ∷ []) ts at e
 factor_fails_negated {room = room} {inner = inner} d here q = fails_following {qs = node factor inner ∷ []} (negation_read d here) here (negation_parts room inner d) q
 
--- If two lists begin with the same token, the first token of one may be replaced by that of the
--- other.
+-- If two lists begin with the same token, their first tokens may be exchanged.
 heads : {xs w : List (Terminal ℕ)} {x y : Terminal ℕ} {a b : List (Terminal ℕ)} → xs ≡ x ∷ a → SameHead xs w → w ≡ y ∷ b → x ∷ b ≡ y ∷ b
 heads {b = b} p h q = ap (λ c. c ∷ b) (head_of (sym p ∙ h.is) ∙ head_of (sym h.alike ∙ q))
 

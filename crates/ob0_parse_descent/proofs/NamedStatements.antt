@@ -105,8 +105,8 @@ name_mark e = cc
 no_selectors : {x k : ℕ} {f : Tree ℕ (item selector)} {fs : Tree ℕ (items selector)} → designator k end ≡ designator x (more f fs) → ⊥
 no_selectors e = cc
 
--- If the tokens of a designator and a rest are those of an assignment, the rest of the designator
--- in the assignment begins with `:=`.
+-- If a designator followed by some tokens equals an assignment followed by some tokens, the
+-- designator of the assignment is followed by `:=` and its value.
 assigned : {N : Type 0} (x k : N) (ss rs : Tree N (items selector)) (v : Tree N expression) (z w : List (Terminal N)) → spell (designator x ss) ++ w ≡ spell (assigns k rs v) ++ z → spell (designator k rs) ++ (Mark (kind.Symbol symbol.Becomes) ∷ (spell v ++ z)) ≡ spell (designator x ss) ++ w
 assigned x k ss rs v z w e = sym (e ∙ ap (λ y. Name k ∷ y) (append_assoc (spell rs) (Mark (kind.Symbol symbol.Becomes) ∷ spell v) z))
 

@@ -535,7 +535,7 @@ pub fn missing<T>(token: usize, expected: Expected) -> Result<T, ParseRefusal>
 }
 
 /// Returns the number of nesting levels left inside the construct that the token at `at` opens. If
-/// none is left for that construct, returns `TooDeep`.
+/// no level is left for that construct, returns `TooDeep`.
 pub(crate) fn levels_inside(at: usize, room: u32) -> Result<u32, ParseRefusal>
     ensures { Opens at room result }
 {

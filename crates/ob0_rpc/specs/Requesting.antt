@@ -31,7 +31,7 @@ pub data ClientRequest : Type 0 where
   -- A request to rename the name or field at a position, with the new name.
   rename : At → List ℕ → ClientRequest
   -- A request for code actions: the document, the range, and the requested kinds of actions (None
-  -- if no kinds are named).
+  -- if all kinds are requested).
   code_action : List ℕ → Range → Option (List (List ℕ)) → ClientRequest
   formatting : List ℕ → Indent → ClientRequest
 
@@ -140,8 +140,8 @@ only_by found =
     then Some None
     else option_map Some (option_and_then texts_of (option_and_then as_array found))
 
--- Returns the kinds that a context requests. Some None means that it names no kinds, and None that
--- the kinds can't be read or the context isn't an object.
+-- Returns the kinds that a context requests. Some None means that all kinds are requested, and None
+-- that the kinds can't be read or the context isn't an object.
 abbrev pub only_of : Data → Option (Option (List (List ℕ)))
 only_of context = if is_some (as_object context) then only_by (get (codes "only") context) else None
 

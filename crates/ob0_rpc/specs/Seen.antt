@@ -56,7 +56,7 @@ ReadsAs content r = (d : Data) × ReadsContent content (Some d) × MeansAs d r
 abbrev pub at_seen : DocumentPosition → At
 at_seen place = record { uri = string_bytes place.uri; position = place.position }
 
--- Returns the meaning of the requested kinds, or None if no kinds are named.
+-- Returns the meaning of the requested kinds, or None if all kinds are requested.
 abbrev pub kinds_seen : Option (Vec (String Global) Global) → Option (List (List ℕ))
 kinds_seen kinds = option_map (λ texts. map string_bytes texts.items) kinds
 

@@ -41,7 +41,7 @@ pub enum ClientRequest {
     CodeAction {
         uri: String,
         range: Range,
-        /// The requested kinds of actions, or None if the request names no kinds.
+        /// The requested kinds of actions, or None if all kinds are requested.
         only: Option<Vec<String>>,
     },
     Formatting {
@@ -228,8 +228,8 @@ fn spaces_of(size: u64) -> u8
     size.min(MAX_INDENT as u64).max(1) as u8
 }
 
-/// Returns the kinds that a context requests. `Some(None)` means that it names no kinds, and `None`
-/// that they can't be read.
+/// Returns the kinds that a context requests. `Some(None)` means that all kinds are requested, and
+/// `None` that they can't be read.
 fn kinds_of(
     alloc: Global,
     context: Option<&Value>,

@@ -1,5 +1,5 @@
--- Finds the lexemes that end before a place, without white space at their end, and proves where the
--- last of them ends.
+-- Finds the lexemes that end before a place, without white space at their end, and proves at which
+-- place the last of them ends.
 use Rattle.std.proofs.Common.{◌≡◌, ◌≢◌, ℕ, ◌+◌, ◌-◌, ◌<◌, ◌≤◌, List, [], ◌∷◌, ◌++◌, length, max, refl, sym, ap, ap₂, ◌∙◌, subst, arith, ◌⊎◌, inl, inr, ⊎_elim, append-nil, length-append, add-zero, ltb, Some}
 use Rattle.std.specs.List.{All, prefix_len, slice_get}
 use Rattle.std.proofs.lemmas.List.{length_push}
@@ -56,7 +56,7 @@ module _ (place s : ℕ) (l : Lexeme) (ls : List Lexeme) where
   no_bytes : (r : Front place (s + length l.text) ls) → r.front ≡ [] → s + length l.text ≡ r.at
   no_bytes r e = let none : length (joined r.front) ≡ 0 = ap (λ t. length (joined t)) e in omega (arith, r.at_is, none)
 
-  -- If no lexeme is in the front and white space comes before it, the front stays empty.
+  -- If the front has no lexeme, white space in front leaves it empty.
   blank : (r : Front place (s + length l.text) ls) → r.front ≡ [] → l.kind ≡ lexeme.Space → Front place s (l ∷ ls)
   blank r e white =
       let rest : ls ≡ r.back = r.split ∙ ap (λ t. t ++ r.back) e in

@@ -133,8 +133,8 @@ module _ (old : Scanned) (o : IsScan old) (new : List ℕ) (from removed added :
       let there : from + removed + k ≡ p = omega arith in
       ap (λ n. drop n new) (sym here) ∙ sym (drop-drop k (from + added) new) ∙ ap (drop k) (sym r.following) ∙ drop-drop k (from + removed) old.text ∙ ap (λ n. drop n old.text) there
 
-  -- At a border of the old lexemes, the rest of the old text, its tokens and its comments are those
-  -- of the later lexemes.
+  -- At a border of the old lexemes, the later lexemes spell the rest of the old text and have its
+  -- tokens and comments.
   border_facts : (p : ℕ) (b : Border 0 o.lexemes p) → (joined b.back ≡ drop p old.text) × AreLexemes b.back [] × (back_tokens p old.tokens ≡ tokens_from p b.back) × (back_comments p old.comments ≡ comments_from p b.back) × Full b.back
   border_facts p b =
       let parts = full_parts b.front b.back (subst Full b.split some_each) in

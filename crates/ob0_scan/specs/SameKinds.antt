@@ -6,9 +6,9 @@ use Rattle.ob0_scan.specs.declared.tokens.SameTokens.{SameTokens}
 use Rattle.ob0_scan.specs.Reused.{kinds, words_in}
 use Rattle.ob0_scan.specs.Scanned.{Scanned}
 
--- Holds if the first `prefix` tokens of the new text have the same kinds as before, and so do the
--- last ones, which start at `new_suffix` and started at `old_suffix` before. No token is in both
--- parts.
+-- Holds if two parts of the new tokens have the same kinds as before: the first `prefix` tokens,
+-- and the last ones, which start at `new_suffix` and started at `old_suffix` before. No token is in
+-- both parts.
 pub record HasSameTokens (s : SameTokens) (old new : List Token) : Type 0 where
   pub old_range : s.prefix ≤ s.old_suffix
   pub new_range : s.prefix ≤ s.new_suffix

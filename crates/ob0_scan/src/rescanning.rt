@@ -287,9 +287,9 @@ pub fn rescan(
     }
 }
 
-/// Turns the old tokens and comments into those of `new_text`, like `rescan` but without a copy:
-/// the ones before the change stay where they are. If the text has faults, the old tokens are
-/// returned with them. If an allocation fails, the old tokens are lost.
+/// Changes the old tokens and comments into those of `new_text`, like `rescan` but without a copy:
+/// the ones before the change aren't moved. If the text has faults, the old tokens are returned
+/// with them. If an allocation fails, the old tokens are lost.
 pub fn rescan_in_place(
     alloc: Global,
     old: Tokens,

@@ -9,7 +9,7 @@ ghost use Rattle.ob0_session.specs.Devices.{ReadCounts, with_read};
 
 use thiserror::Error;
 
-/// The error of a device: a call failed, or a write of some bytes wrote none of them.
+/// The error of a device: a call failed, or a write of some bytes wrote no byte.
 #[derive(Clone, Copy, Debug, PartialEq, Eq, Error)]
 #[error("the device failed")]
 pub struct DeviceFault;

@@ -27,7 +27,7 @@ use Rattle.ob0_edits.specs.declared.inlining.Inlining.TheVariants.{Here, Everywh
 -- ---- the request
 
 -- A request for code actions: its id, the client's capabilities, the document and its version, the
--- range, and the requested kinds of actions (None if the request names no kinds).
+-- range, and the requested kinds of actions (None if all kinds are requested).
 pub record RequestedActions : Type 0 where
   pub id : Data
   pub client : Client
@@ -53,13 +53,13 @@ abbrev pub is_of_kind : List ℕ → Bool
 is_of_kind kind =
     bytes_eq kind [] || bytes_eq kind (codes "refactor") || bytes_eq kind (codes "refactor.inline")
 
--- Returns true if no kinds are requested, or inlining is of a requested kind.
+-- Returns true if all kinds are requested (None), or inlining is of a requested kind.
 abbrev pub allows_inlining : Option (List (List ℕ)) → Bool
 allows_inlining (Some kinds) = list_any is_of_kind kinds
 allows_inlining None = true
 
 -- Returns true if the client accepts actions that aren't commands, and inlining is of a requested
--- kind or no kinds are requested.
+-- kind or all kinds are requested.
 abbrev pub takes_inlining : Client → Option (List (List ℕ)) → Bool
 takes_inlining client only = client.takes_literal_actions && allows_inlining only
 
@@ -110,8 +110,8 @@ pub record ListsInlinings (unit : Unit) (requested : RequestedActions) (text : L
       everywhere
   pub listed : value ≡ actions_value requested here everywhere
 
--- Holds if the value lists the offered actions. It is empty if the client requests none of them, or
--- if the text isn't a well-typed module.
+-- Holds if the value lists the offered actions. It is empty if the client doesn't request inlining,
+-- or if the text isn't a well-typed module.
 abbrev pub ListsActions : Unit → RequestedActions → List ℕ → Data → Type 0
 ListsActions unit requested text value =
     ListsInlinings unit requested text value

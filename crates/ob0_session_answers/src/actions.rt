@@ -43,7 +43,7 @@ pub struct ActionsRequest<'a> {
     pub client: Client,
     pub uri: &'a str,
     pub range: Range,
-    /// The requested kinds of actions, or None if the request names no kinds.
+    /// The requested kinds of actions, or None if all kinds are requested.
     pub only: &'a Option<Vec<String>>,
 }
 
@@ -71,7 +71,7 @@ impl<'a, T: TextStore> DocumentRequest<T> for ActionsRequest<'a> {
 
 impl<'a> ActionsRequest<'a> {
     /// Returns whether the client accepts actions that aren't commands, and inlining is of a
-    /// requested kind or no kinds are requested.
+    /// requested kind or all kinds are requested.
     fn wants_inlining(&self) -> bool
         ensures { result ≡ wants self.now.client (kinds_seen self.now.only.now) }
     {

@@ -42,7 +42,7 @@ impl Analyses {
         }
     }
 
-    /// Removes the analysis of a document and returns it, or None if none is kept.
+    /// Removes the analysis of a document and returns it. Returns None if no analysis is kept.
     pub fn take(&mut self, uri: &str) -> Option<Analysis>
         ensures found { IfSome result (KeepsAnalysis self.old uri.now) }
         ensures others { KeepsOthers self.old uri.now self.new }
@@ -55,7 +55,7 @@ impl Analyses {
         Some(analysis)
     }
 
-    /// Returns the analysis of a document, or None if none is kept.
+    /// Returns the analysis of a document, or None if no analysis is kept.
     pub fn get(&self, uri: &str) -> Option<&Analysis>
         ensures { IfSome result (λ a. KeepsAnalysis self.now uri.now a.now) }
     {
@@ -95,7 +95,7 @@ impl Analyses {
     }
 
     /// Adds this many bytes to the total, and drops the least recently used analyses until the
-    /// total is within the bound or none is left.
+    /// total is within the bound or no analysis is left.
     fn free(&mut self, bytes: usize)
         ensures { KeepsOnly self.old self.new }
     {

@@ -36,7 +36,7 @@ pub enum Phase {
     Failed,
 }
 
-/// What follows a step: the session continues, or it has ended with an exit status.
+/// The state after a step: the session continues, or it has ended with an exit status.
 #[derive(Clone, Copy, Debug, Drop, PartialEq, Eq)]
 pub enum Next {
     Continue,
@@ -515,7 +515,7 @@ fn message_of(outcome: RequestOutcome) -> Option<Vec<u8>>
     }
 }
 
-/// Returns documents of which none is open. Positions are counted in bytes of UTF-8 if the client
+/// Returns documents without any open one. Positions are counted in bytes of UTF-8 if the client
 /// offers that, otherwise in UTF-16 units.
 fn documents_for<T: TextStore>(alloc: Global, client: Client) -> Documents<T>
     ensures { result ≡ none_open (unit_for client) }

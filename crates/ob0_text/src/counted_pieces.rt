@@ -38,7 +38,7 @@ pub fn nothing_counted() -> CountedPiece
 
 impl CountedPiece {
     /// Returns this piece if it ends at or before the byte offset `offset`, otherwise an empty
-    /// piece. The result stays valid for every text that has the same bytes before `offset`.
+    /// piece. The result is valid for every text that has the same bytes before `offset`.
     pub fn up_to(self, offset: usize) -> CountedPiece
         ensures { (width : ℕ → ℕ) (text rest : List ℕ)
             → IsPieceOfLine width text self.start self.counted

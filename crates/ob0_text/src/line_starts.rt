@@ -17,7 +17,8 @@ pub fn starts_of(alloc: Global, text: &str) -> Result<Vec<usize>, AllocError>
 }
 
 /// Returns the offsets, from the start of `new` to its end, at which a line starts if `new`
-/// replaces the bytes `from..to` of the text. The bytes next to the change are taken into account.
+/// replaces the bytes `from..to` of the text. The byte before the change and the bytes after it are
+/// considered as well.
 pub fn starts_in_change(
     alloc: Global,
     text: &str,

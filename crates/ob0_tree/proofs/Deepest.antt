@@ -11,7 +11,7 @@ capped_max a b = omega arith
 pub capped_more : (a : ℕ) → capped (capped a + 1) ≡ capped (a + 1)
 capped_more a = omega arith
 
--- Holds if the greatest nesting so far and that of the remaining items together are the greatest of
+-- Holds if the greatest of `deepest` and the nesting of the remaining items is the greatest of
 -- `start` and the nesting of all items.
 pub record Deepest {A : Type 0} {i : Item} (f : A → Tree ℕ (item i)) (start : ℕ) (xs : List A) (done : ℕ) (deepest : ℕ) : Type 0 where
   pub so_far : max deepest (capped (nesting (items_of f (drop done xs)))) ≡ max start (capped (nesting (items_of f xs)))

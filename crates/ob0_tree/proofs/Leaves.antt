@@ -170,7 +170,7 @@ ascending_looked_up low ((role.ClosingName, n) ∷ xs) high p = ascending_lower 
 ascending_looked_up low ((role.FieldName, n) ∷ xs) high p = ascending_lower low (n + 1) (looked_up_only xs) high (omega (arith, p.0)) (ascending_looked_up (n + 1) xs high p.1)
 ascending_looked_up low ((role.ModuleName, n) ∷ xs) high p = ascending_lower low (n + 1) (looked_up_only xs) high (omega (arith, p.0)) (ascending_looked_up (n + 1) xs high p.1)
 
--- If the identifiers of a tree ascend, so do the ones that are looked up.
+-- If the identifiers of a tree ascend, the ones that are looked up ascend as well.
 pub occurrences_ascend : {s : Sort} (t : Tree ℕ s) (low high : ℕ) → Ascending low (leaves t) high → Ascending low (occurrences t) high
 occurrences_ascend t low high p =
     subst (λ l. Ascending low l high) (looked_up-occurrences role.Declaring (λ n xs. refl) t) (ascending_looked_up low (identifiers role.Declaring t) high p)
