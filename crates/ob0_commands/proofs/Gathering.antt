@@ -50,8 +50,8 @@ word_end text at end is =
     let all : take (length text - at) (drop at text) ≡ drop at text = take_all (length text - at) (drop at text) (omega (arith, length-drop at text)) in
     is ∙ ap (λ t. at + position_or_len is_space t) all
 
--- If the text is a list of numbers, the word at a place that isn't a space spells a number, and a list of numbers
--- follows.
+-- If the text is a list of numbers, the word at a place that isn't a space spells a number. A list of numbers follows
+-- it.
 word_here : (text : List ℕ) (at : ℕ) (ns : List ℤ) → at < length text → is_space (slice_index text at) ≡ false → Gathered text at ns → IsListOfNumbers text → Begins (drop at text)
 word_here text at ns inside apart g all =
     let here = g.left all in

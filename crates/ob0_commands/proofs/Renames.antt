@@ -1,5 +1,5 @@
--- Proves that a text is printed only if the edits put the name into the file's text, and that no text is printed if the
--- name is refused.
+-- Proves that a text is printed only if the edits put the name into the file's text. If the name is refused, no text is
+-- printed.
 use Rattle.std.proofs.Common.{◌≡◌, ℕ, List, Option, Some, Result, Ok, Err, Vec, Global, subst}
 use Rattle.std.specs.Str.{chars}
 use Rattle.ob0_text.specs.declared.edits.Edit.{Edit}

@@ -1,5 +1,5 @@
 -- Defines how a command on a file ends: its status, its output and its lines on standard error. If
--- the status is 0 or 1, the file has a text or is too long, and neither the output nor the input
+-- the status is 0 or 1, the file has a text or is too long. Then neither the output nor the input
 -- has failed in the call. If the status is a fault's, the fault has a reason
 -- (`StopsPrintingFaults`, `StopsRunning`). Only an input that isn't a list of numbers has a weaker
 -- reverse: 0 and 1 require such a list (`IsInputOf`), and 5 may come with or without one. `text_of`

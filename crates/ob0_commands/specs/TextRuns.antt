@@ -62,8 +62,8 @@ pub record PrintsEnded (file : List ℕ) (given : Option (List ℕ)) (c t : ℕ)
   pub ends : r.ending ≡ end_in last
   pub said : Said (end_line last)
 
--- Holds if the file's errors are printed and nothing on standard error, or if the output of a run
--- with an end other than Done is printed and the line of that end on standard error.
+-- Holds in two cases. The file's errors are printed, and nothing on standard error. Or the output
+-- of a run with an end other than Done is printed, and the line of that end on standard error.
 abbrev pub PrintsOther : List ℕ
     → Option (List ℕ)
     → ℕ

@@ -1,5 +1,5 @@
--- Proves that a text whose tokens have the same kinds as before, one by one, has the same tree over
--- token indexes, or is refused at the same token.
+-- Proves facts about a text whose tokens have the same kinds as before, one by one. It has the same
+-- tree over token indexes, or the parser refuses it at the same token.
 use Rattle.std.proofs.Common.{◌≡◌, ℕ, ◌+◌, ◌≤◌, List, [], ◌∷◌, ◌++◌, map, take, length, refl, sym, ap, ◌∙◌, subst}
 use Rattle.std.proofs.lemmas.List.{map-append, length-map, take-map}
 use Rattle.ob0_scan.specs.declared.lexeme.TokenKind.{TokenKind}
@@ -52,8 +52,8 @@ tree_stays old new parsed tree short same =
 indexed_again : (s : Scanned) → reindexed 0 (text_lexemes s ++ (EndOfText ∷ [])) ≡ lexemes s.tokens
 indexed_again s = ap (reindexed 0) (sym (texts s)) ∙ indexes_again (text_at s) (value_at s) s.tokens 0
 
--- If no module begins with the first tokens of the old text, no module begins with the first tokens
--- of the new text, whose tokens have the same kinds.
+-- If no module begins with the first tokens of a text, none begins with the first tokens of another
+-- text whose tokens have the same kinds.
 none_begins : (old new : Scanned) (i : ℕ) → kinds new.tokens ≡ kinds old.tokens → NoneBegins old i → NoneBegins new i
 none_begins old new i same none t more shallow begins =
     let r = relabelled (text_at old) (value_at old) in

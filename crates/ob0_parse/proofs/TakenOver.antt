@@ -25,8 +25,8 @@ stops_alike n xs w h p =
     let s : Stops n (h.head ∷ h.other) = subst (λ y. Stops n y) h.is p in
     subst (λ y. Stops n y) (sym h.alike) s
 
--- If a tree's tokens are here and the next token stops it, the descent reads that tree, and no
--- other tree of the sort has these tokens.
+-- If a tree's tokens are here and the next token stops it, the descent reads that tree. No other
+-- tree of the sort has these tokens.
 taken_there : {s : Sort} (t : Tree ℕ s) (room : ℕ) (ts : List Token) (at next : ℕ) → Stops (level s) (rest ts next) → rest ts at ≡ spell t ++ rest ts next → nesting t ≤ room → at ≤ next → next ≤ length ts → Taken t room ts at next
 taken_there {s = s} t room ts at next stops spelled shallow forward within =
     let whole : at + length (spell t ++ rest ts next) ≡ next + length (rest ts next) =

@@ -89,8 +89,8 @@ pub record IsMadeBody
 
 -- ---- another text
 
--- Holds if every tree at `at..next` in the old text is at the range `place` in the new text, for
--- any texts that have these same tokens.
+-- Holds if a tree at `at..next` in the old text is at the range `place` in the new text. This is
+-- for any two texts that have these same tokens.
 abbrev pub CarriesTokens : SameTokens → ℕ → ℕ → ℕ × ℕ → Type 0
 CarriesTokens same at next place =
     (s : Sort) (old new : List Token) (from : ℕ) (t : Tree ℕ s)
@@ -98,14 +98,14 @@ CarriesTokens same at next place =
     → IsThere old from at next t
     → IsThere new from place.0 place.1 t
 
--- Holds if b waits in the new text in case a waits in the old text, for any texts that have these
--- same tokens.
+-- Holds if b waits in the new text whenever a waits in the old text. This is for any two texts that
+-- have these same tokens.
 abbrev pub CarriesTo : SameTokens → KeptProcedure → KeptProcedure → Type 0
 CarriesTo same a b =
     (old new : List Token) → HasSameTokens same old new → IsWaiting old a → IsWaiting new b
 
--- Holds if the procedures `after` wait in the new text in case a waits in the old text and `before`
--- in the new one.
+-- Holds if the procedures `after` wait in the new text whenever a waits in the old text and
+-- `before` wait in the new one.
 abbrev pub CarriesOne : SameTokens
     → KeptProcedure
     → List KeptProcedure
@@ -118,7 +118,7 @@ CarriesOne same a before after =
     → Each (IsWaiting new) before
     → Each (IsWaiting new) after
 
--- Holds if the procedures ys wait in the new text in case the procedures xs wait in the old text.
+-- Holds if the procedures ys wait in the new text whenever the procedures xs wait in the old text.
 abbrev pub CarriesAll : SameTokens → List KeptProcedure → List KeptProcedure → Type 0
 CarriesAll same xs ys =
     (old new : List Token)
@@ -126,7 +126,7 @@ CarriesAll same xs ys =
     → Each (IsWaiting old) xs
     → Each (IsWaiting new) ys
 
--- Holds if the procedures `after` wait in the new text in case p is in place in the old text and
+-- Holds if the procedures `after` wait in the new text whenever p is in place in the old text and
 -- `before` wait in the new one.
 abbrev pub CarriesMade : SameTokens
     → Procedure
@@ -140,7 +140,7 @@ CarriesMade same p before after =
     → Each (IsWaiting new) before
     → Each (IsWaiting new) after
 
--- Holds if the procedures `after` wait in the new text in case all of ps are in place in the old
+-- Holds if the procedures `after` wait in the new text whenever all of ps are in place in the old
 -- text and `before` wait in the new one.
 abbrev pub CarriesAllMade : SameTokens
     → List Procedure
@@ -154,8 +154,8 @@ CarriesAllMade same ps before after =
     → Each (IsWaiting new) before
     → Each (IsWaiting new) after
 
--- Holds if the body b is at its place in the new text in case the body a is at its place in the old
--- text.
+-- Holds if the body b is at its place in the new text whenever the body a is at its place in the
+-- old text.
 abbrev pub CarriesBody : SameTokens → KeptBody → KeptBody → Type 0
 CarriesBody same a b =
     (old new : List Token)
@@ -163,7 +163,7 @@ CarriesBody same a b =
     → IsBodyThere old a
     → IsBodyThere new b
 
--- Holds if the optional body b is at its place in the new text in case the optional body a is at
+-- Holds if the body b, if any, is at its place in the new text whenever the body a, if any, is at
 -- its place in the old text.
 abbrev pub CarriesAnyBody : SameTokens → Option KeptBody → Option KeptBody → Type 0
 CarriesAnyBody same a b =
@@ -178,22 +178,22 @@ IsMadeAt p k =
 
 -- ---- reusing
 
--- Holds if x is a procedure with its leaves in place that begins at this index, and the index of
--- the token after that procedure.
+-- Holds if x is a procedure and the index of the token after it. The procedure begins at this
+-- index, and its leaves are in place.
 abbrev pub IsTakenAt : List Token → ℕ → Procedure × ℕ → Type 0
 IsTakenAt ts at x = IsInPlace ts at x.1 (procedure_of x.0)
 
--- Holds if x is a procedure that begins at this index with its leaves in place, in case all the
+-- Holds if x is a procedure that begins at this index with its leaves in place, whenever all the
 -- waiting procedures are at their places.
 abbrev pub IsTakenFrom : List KeptProcedure → ℕ → Procedure × ℕ → Type 0
 IsTakenFrom waiting at x = (ts : List Token) → Each (IsWaiting ts) waiting → IsTakenAt ts at x
 
--- Holds if the procedures `after` wait at their places in case the procedures `before` do.
+-- Holds if the procedures `after` wait at their places whenever the procedures `before` do.
 abbrev pub StayWaiting : List KeptProcedure → List KeptProcedure → Type 0
 StayWaiting before after =
     (ts : List Token) → Each (IsWaiting ts) before → Each (IsWaiting ts) after
 
--- Holds if x is the statements of a body with their leaves in place that begins at this index, and
--- the index of the token after that body.
+-- Holds if x is the statements of a body and the index of the token after it. The body begins at
+-- this index, and its leaves are in place.
 abbrev pub IsTakenBody : List Token → ℕ → Vec Statement Global × ℕ → Type 0
 IsTakenBody ts at x = IsInPlace ts at x.1 (body_of (Some x.0))

@@ -103,8 +103,8 @@ pub read_led : {s : Sort} {room : ℕ} {k : TokenKind} {ts : List Token} {at : �
 read_led {s = s} {room = room} {k = k} qs c here =
     by (read_made (ap (λ w. chosen s room w) here ∙ c)) (both (read_token here refl) as_is)
 
--- The descent reads a construct that counts for nesting, and whose production begins with this
--- token, as the parts after that token, with one level less.
+-- The descent reads a construct that counts for nesting as the parts after its first token, with
+-- one level less.
 pub read_opened : {s : Sort} {room : ℕ} {k : TokenKind} {ts : List Token} {at : ℕ} (inner : ℕ) (f : ℕ → List Part) → chosen s room (Mark k ∷ rest ts (at + 1)) ≡ nested room (λ n. token k ∷ f n) → room ≡ inner + 1 → rest ts at ≡ Mark k ∷ rest ts (at + 1) → ReadAs (node s room ∷ []) (f inner) ts at (at + 1)
 read_opened {k = k} inner f c d here =
     let one : inner + 1 ≡ suc inner = omega arith in

@@ -63,10 +63,10 @@ multiply_mark_lexeme multiply_operator.And i z = refl
 read_operator : {i : Item} {s : Sort} {room : ℕ} {ts : List Token} {at : ℕ} (j k : TokenKind) → j ≡ k → ((z : List (Terminal ℕ)) → lexeme_of at k ∷ z ≡ Mark k ∷ z) → chosen (item i) room (Mark k ∷ rest ts (at + 1)) ≡ operation s room (Mark k ∷ rest ts (at + 1)) → rest ts at ≡ lexeme_of at j ∷ rest ts (at + 1) → ReadAs (node (item i) room ∷ []) (node s room ∷ []) ts at (at + 1)
 read_operator {s = s} {room = room} {ts = ts} {at = at} j k is mark c here = read_led (node s room ∷ []) c (subst (λ y. rest ts at ≡ lexeme_of at y ∷ rest ts (at + 1)) is here ∙ mark (rest ts (at + 1)))
 
--- expression = simple [relation simple]
+-- Lemmas on expressions: `simple [relation simple]`.
 
--- If a tree was read, the tokens of that tree followed by any list with the same next token begin
--- with the same token as before.
+-- If a tree was read, its tokens begin with the same token as before, even if other tokens follow
+-- the next token.
 pub head_at : {s : Sort} {room : ℕ} {ts : List Token} {m n : ℕ} (c : Tree ℕ s) → Taken c room ts m n → (w : List (Terminal ℕ)) → SameHead (rest ts n) w → SameHead (rest ts m) (spell c ++ w)
 head_at {ts = ts} {n = n} c q w h = subst (λ y. SameHead y (spell c ++ w)) (sym q.spelled) (head_following (spell c) (rest ts n) w h)
 
@@ -111,7 +111,7 @@ comparison_fails_right {room = room} {ts = ts} {at = at} k o is here q = record 
   fails = fails_following {qs = node simple room ∷ []} (read_operator k (relation_mark o) is (relation_mark_lexeme o at) refl here) here (comparison_right room (lexeme_of at k)) q;
 }
 
--- simple = [sign] term {operator term}
+-- Lemmas on simple expressions: `[sign] term {operator term}`.
 
 -- If the tokens don't begin with a sign, the production of a simple expression begins with a term.
 pub chosen_unsigned : (room : ℕ) (w : List (Terminal ℕ)) → Unsigned w → chosen simple room w ≡ parts (node term room ∷ node (items addend) room ∷ [])
@@ -169,7 +169,7 @@ addend_fails_term {room = room} {ts = ts} {at = at} k o is here q = record {
   fails = fails_following {qs = node term room ∷ []} (read_operator k (add_mark o) is (add_mark_lexeme o at) refl here) here (addend_term room (lexeme_of at k)) q;
 }
 
--- term = factor {operator factor}
+-- Lemmas on terms: `factor {operator factor}`.
 
 product_only : {room : ℕ} {ts : List Token} {m n : ℕ} {at : ℕ} (a : Tree ℕ factor) (c : Tree ℕ (items multiplier)) → Taken a room ts at m → Taken c room ts m n → (u : Tree ℕ term) (z w : List (Terminal ℕ)) → SameHead (rest ts n) w → Stops 2 z → spell u ++ z ≡ (spell a ++ spell c) ++ w → (u ≡ product a c) × (z ≡ w)
 product_only a c p q (product b d) z w h s e =
@@ -243,7 +243,7 @@ taken_multiplies {ts = ts} {at = at} {n = n} k o a is here p = record {
   forward = omega (arith, p.forward);
 }
 
--- factor = identifier selector | integer | "(" expression ")" | "~" factor
+-- Lemmas on factors: `identifier selector | integer | "(" expression ")" | "~" factor`.
 
 integer_only : (i : ℕ) (u : Tree ℕ factor) (z w : List (Terminal ℕ)) → spell u ++ z ≡ Number i ∷ w → (u ≡ integer i) × (z ≡ w)
 integer_only i (designator n ss) z w e = absurd (name_not_number e)
@@ -386,7 +386,7 @@ factor_fails_designator {room = room} {ts = ts} {at = at} here q =
 pub designator_fails_selector : {room : ℕ} {ts : List Token} {at m n : ℕ} {e : ParseRefusal} (ss : Tree ℕ (items selector)) → rest ts at ≡ Name at ∷ rest ts m → m ≡ at + 1 → Taking ss room ts m n → ItemFails selector room ts n e → FailsToRead (name ∷ node (items selector) room ∷ []) ts at e
 designator_fails_selector ss here l p q = fails_pass_name here l (taking_fails ss p q)
 
--- selector = "." identifier | "[" expression "]"
+-- Lemmas on selectors: `"." identifier | "[" expression "]"`.
 
 selector_head : (x : Terminal ℕ) → (x ≡ Mark (kind.Symbol symbol.Dot) → ⊥) → (x ≡ Mark (kind.Symbol symbol.LeftBracket) → ⊥) → rank x ≡ 1 → ⊥
 selector_head (Name n) p q e = omega arith

@@ -22,7 +22,7 @@ use Rattle.ob0_tree.specs.View.{selector_of, items_of}
 use Rattle.ob0_parse_descent.proofs.StatementParts.{alike}
 use Rattle.ob0_parse_descent.proofs.Apart.{name_not_mark}
 
--- Holds if the tokens begin with some tree of the sort of t, and the parts ps begin after that tree
+-- Holds if the tokens begin with some tree of the sort of t, and with the parts ps after that tree
 -- in case it is t.
 record After {s : Sort} (t : Tree ℕ s) (w : List (Terminal ℕ)) (ps : List Part) : Type 0 where
   other : Tree ℕ s
@@ -105,8 +105,8 @@ name_mark e = cc
 no_selectors : {x k : ℕ} {f : Tree ℕ (item selector)} {fs : Tree ℕ (items selector)} → designator k end ≡ designator x (more f fs) → ⊥
 no_selectors e = cc
 
--- If a designator followed by some tokens equals an assignment followed by some tokens, the
--- designator of the assignment is followed by `:=` and its value.
+-- If a designator and the tokens after it equal an assignment and some tokens, they equal the
+-- assignment's target, `:=`, its value and those tokens.
 assigned : {N : Type 0} (x k : N) (ss rs : Tree N (items selector)) (v : Tree N expression) (z w : List (Terminal N)) → spell (designator x ss) ++ w ≡ spell (assigns k rs v) ++ z → spell (designator k rs) ++ (Mark (kind.Symbol symbol.Becomes) ∷ (spell v ++ z)) ≡ spell (designator x ss) ++ w
 assigned x k ss rs v z w e = sym (e ∙ ap (λ y. Name k ∷ y) (append_assoc (spell rs) (Mark (kind.Symbol symbol.Becomes) ∷ spell v) z))
 

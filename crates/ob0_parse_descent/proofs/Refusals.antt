@@ -36,8 +36,8 @@ head_following (c ∷ a) x w h = record { head = c; following = a ++ x; other = 
 pub refused_head : (ps : List Part) (xs after unseen : List (Terminal ℕ)) → (r : Refused ps xs after) → SameHead xs (r.passed ++ (r.fault ∷ unseen))
 refused_head ps xs after unseen r = subst (λ z. SameHead z (r.passed ++ (r.fault ∷ unseen))) (sym r.here) (passed_head r.passed after unseen r.fault)
 
--- A refusal of the parts qs is a refusal of the parts ps if each list with the same first token
--- that begins with ps also begins with qs.
+-- A refusal of the parts qs is a refusal of the parts ps, if each list with the same first token
+-- that begins with ps begins with qs.
 pub select : {ps qs : List Part} {xs after : List (Terminal ℕ)} → ((w : List (Terminal ℕ)) → SameHead xs w → Begins ps w → Begins qs w) → Refused qs xs after → Refused ps xs after
 select {ps = ps} {qs = qs} {xs = xs} {after = after} f r = record {
   passed = r.passed;
@@ -153,8 +153,8 @@ following_alike {qs = qs} x {xs} {z} {after} e f r = record {
   never = λ unseen b. r.never unseen (f (r.passed ++ (r.fault ∷ unseen)) (refused_head qs z after unseen r) b);
 }
 
--- If the first token and the next one together determine the parts after the first, a refusal of
--- these parts is a refusal of the whole.
+-- If the first token and the next one determine the parts after the first token, a refusal of these
+-- parts is a refusal of the whole.
 pub fails_following_alike : {ps qs : List Part} {x : Terminal ℕ} {ts : List Token} {at next : ℕ} {e : ParseRefusal} → ReadAs ps qs ts at next → rest ts at ≡ x ∷ rest ts next → ((w : List (Terminal ℕ)) → SameHead (rest ts next) w → Begins ps (x ∷ w) → Begins qs w) → FailsToRead qs ts next e → FailsToRead ps ts at e
 fails_following_alike {x = x} g h f q = fails_by (λ o r more. g.on o more (r more)) (λ after r. following_alike x h f r) q
 

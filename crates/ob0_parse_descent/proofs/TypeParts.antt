@@ -40,7 +40,7 @@ pub type_missing : {room : ℕ} {ts : List Token} {at : ℕ} → NoName ts at �
 type_missing {room = room} {ts = ts} {at = at} unnamed a r =
     fails_here unnamed.fault unnamed.within unnamed.here (λ more. absent (ap (λ w. chosen written_type room w) unnamed.here ∙ chosen_no_type room unnamed.fault (rest ts (at + 1)) unnamed.ranked (λ e. a.differs (head_of (sym a.here ∙ unnamed.here) ∙ e)) (λ e. r.differs (head_of (sym r.here ∙ unnamed.here) ∙ e)))) (no_type room ts at unnamed a r unnamed.fault unnamed.here)
 
--- ARRAY expression OF type
+-- Lemmas on array types: `ARRAY expression OF type`.
 
 abbrev pub array_following : ℕ → List Part
 array_following inner = node expression inner ∷ token (kind.Reserved reserved.Of) ∷ node written_type inner ∷ []
@@ -72,7 +72,7 @@ no_array w (record_type f fs, z, e, n, s, b) = omega arith
 pub array_too_deep : {ts : List Token} {at room : ℕ} {e : ParseRefusal} → at < length ts → (room ≡ 0) × (e ≡ TooDeep at) → rest ts at ≡ Mark (kind.Reserved reserved.Array) ∷ rest ts (at + 1) → FailsToRead (node written_type room ∷ []) ts at e
 array_too_deep {ts = ts} {at = at} {e = e} l o here = subst (λ r. FailsToRead (node written_type r ∷ []) ts at e) (sym o.0) (too_deep_at_once l o.1 here (λ more. deep (ap (λ w. chosen written_type 0 w) here)) no_array)
 
--- RECORD fields {";" fields} END
+-- Lemmas on record types: `RECORD fields {";" fields} END`.
 
 abbrev pub record_following : ℕ → List Part
 record_following inner = node fields inner ∷ node (items further_fields) inner ∷ token (kind.Reserved reserved.End) ∷ []
@@ -113,7 +113,7 @@ no_record w (record_type f fs, z, e, n, s, b) = omega arith
 pub record_too_deep : {ts : List Token} {at room : ℕ} {e : ParseRefusal} → at < length ts → (room ≡ 0) × (e ≡ TooDeep at) → rest ts at ≡ Mark (kind.Reserved reserved.Record) ∷ rest ts (at + 1) → FailsToRead (node written_type room ∷ []) ts at e
 record_too_deep {ts = ts} {at = at} {e = e} l o here = subst (λ r. FailsToRead (node written_type r ∷ []) ts at e) (sym o.0) (too_deep_at_once l o.1 here (λ more. deep (ap (λ w. chosen written_type 0 w) here)) no_record)
 
--- fields = [names ":" type]
+-- Lemmas on groups of fields: `[names ":" type]`.
 
 no_fields_only : {ts : List Token} {at : ℕ} → NoName ts at → (u : Tree ℕ fields) (z w : List (Terminal ℕ)) → SameHead (rest ts at) w → Stops 7 z → spell u ++ z ≡ w → (u ≡ no_fields) × (z ≡ w)
 no_fields_only unnamed no_fields z w h s e = (refl, e)

@@ -41,7 +41,7 @@ pub record AppendsItem (later : Bool) (value : Data) (old new : List ℕ) : Type
   pub reads : IsReadBack value
 
 -- Holds if the byte `before` (a bracket or a comma), a name in quotes, a colon and the value's text
--- are appended, and the value reads back.
+-- are appended. The value reads back from its text.
 pub record AppendsMember (before : ℕ) (name : List ℕ) (value : Data)
     (old new : List ℕ) : Type 0 where
   pub text : new ≡ old ++ before ∷ 34 ∷ (name ++ 34 ∷ 58 ∷ compact_text value)

@@ -119,8 +119,8 @@ reused old new from removed added s t tokens comments end fs gs ft fc st sc r m 
       comments_new = r.comments_new;
     }
 
--- Holds if the scanner t has stopped without a fault, and its tokens and comments, followed by the
--- remaining old ones, shifted, are a scan of the new text.
+-- Holds if the scanner t has stopped without error, and its tokens and comments can be completed
+-- with the remaining old ones, shifted, to a scan of the new text.
 pub record Settled (old : Scanned) (new : List ℕ) (from removed added : ℕ) (t : Scanner) (tokens : List Token) (comments : List Span) : Type 0 where
   pub met : IsMet old (length new) from removed added t.at tokens comments
   pub tokens_move : All (λ (x : Token). IsMovable removed added x.span) tokens

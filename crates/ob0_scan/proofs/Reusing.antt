@@ -94,8 +94,8 @@ module _ (old : Scanned) (o : IsScan old) (new : List ℕ) (from removed added :
   some_each : Full o.lexemes
   some_each = full o.lexemes [] o.lexed.each
 
-  -- Up to the end of the last token or comment before the change, the new text has the same tokens
-  -- and comments as the old one.
+  -- Up to the end of the last token or comment before the change, the new text has the tokens and
+  -- comments of the old one.
   pub front_cut : (last_end (tokens_before_change from old.tokens) (comments_before_change from old.comments) ≤ length new) × IsCutTo new (last_end (tokens_before_change from old.tokens) (comments_before_change from old.comments)) (tokens_before_change from old.tokens) (comments_before_change from old.comments)
   front_cut =
       let f = find_front from 0 o.lexemes some_each in
@@ -147,8 +147,8 @@ module _ (old : Scanned) (o : IsScan old) (new : List ℕ) (from removed added :
         parts.1,
       )
 
-  -- If a scan stopped at a border of the old lexemes, its tokens and comments, followed by the old
-  -- ones after that border, shifted, are a scan of the new text.
+  -- If a scan stopped at a border of the old lexemes, it can be completed with the old tokens and
+  -- comments after that border, shifted. The result is a scan of the new text.
   pub finished : (at p : ℕ) (tokens : List Token) (comments : List Span) → IsUtf8 new → length new ≤ max_text → at ≤ length new → from + added ≤ at → at + removed ≡ p + added → IsCutTo new at tokens comments → Border 0 o.lexemes p
       → IsScan (record { text = new; tokens = tokens ++ map (moved_token removed added) (back_tokens p old.tokens); comments = comments ++ map (move_span removed added) (back_comments p old.comments) })
   finished at p tokens comments utf8 short inside following e cut b =

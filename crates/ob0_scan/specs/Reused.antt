@@ -80,7 +80,7 @@ IsNew old from removed added span =
     from + added ≤ span.start → NoOldBegins old (span.start + removed - added)
 
 -- Holds if the first tokens and comments of the changed text are the old ones that end before the
--- change, and the last are old ones after the change, shifted. Between them are `read` tokens and
+-- change. The last are old ones after the change, shifted. Between them are `read` tokens and
 -- comments. If one of these begins after the change, no old token or comment began at its place. So
 -- the last ones start at the first place at which tokens or comments of both texts begin.
 pub record Reuses (old new : Scanned) (from removed added read : ℕ) : Type 0 where

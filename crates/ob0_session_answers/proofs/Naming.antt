@@ -13,8 +13,8 @@ use Rattle.ob0_analysis.specs.Texts.{utf8}
 use Rattle.ob0_session_answers.specs.Questions.{location_at}
 use Rattle.ob0_analysis.proofs.Scanning.{utf8_of}
 
--- Holds if an answer is right for the module that the text is, or if there is none (None) and the
--- text isn't a well-typed module.
+-- Holds if the text is a module and its names have this answer, or there is no answer (None) and
+-- the text isn't a well-typed module.
 abbrev pub FoundOf : {A : Type 0} → List ℕ → (Resolution → A → Type 0) → Option A → Type 0
 FoundOf text is (Some answer) = (names : Resolution) × IsModuleIn (utf8 text) names × is names answer
 FoundOf text is None = IsWellTypedModule (utf8 text) → ⊥

@@ -259,7 +259,7 @@ AnswersInState (Ended status) before content sent after = (sent ≡ []) × (afte
 AnswersInState Failed before content sent after = ⊥
 AnswersInState phase before content sent after = AnswersGoingOn before content sent after
 
--- Holds if a server in the first state may reply to this content with these messages, and is then in the second state.
+-- Holds if a server in the first state may reply to this content with these messages. It is then in the second state.
 abbrev pub Answers : ServerState → List ℕ → List (List ℕ) → ServerState → Type 0
 Answers before content sent after = AnswersInState before.phase before content sent after
 
@@ -274,8 +274,8 @@ pub record AnswersFirst (before : ServerState) (content : List ℕ) (sent : List
   pub follows : Follows between later
   pub all : sent ≡ first ++ later
 
--- Holds if a server in the first state may reply to these contents, one after another, with these messages in this
--- order, and is then in the second state.
+-- Holds if a server in the first state may reply to these contents, one after another, with these messages in order. It
+-- is then in the second state.
 abbrev pub Conversation : ServerState → List (List ℕ) → List (List ℕ) → ServerState → Type 0
 Conversation before [] sent after = (sent ≡ []) × (after ≡ before)
 Conversation before (content ∷ contents) sent after =

@@ -120,7 +120,7 @@ counts width narrow text starts l place u is here line none =
     subst (λ n. IsCounted width text (drop place.offset text) place.offset place.line n) (sym none)
     (subst (λ o. IsCounted width text (drop o text) o place.line 0) (sym start) (line_counted width narrow text u place.line inside))
 
--- If `count` line starts are at or before the offset m, then `count` is at least 1, and the last of
+-- If `count` line starts are at or before the offset m, then `count` is at least 1. The last of
 -- these starts is at or before m.
 pub searched : (text starts : List ℕ) (m n count : ℕ) → IsUtf8 text → starts ≡ line_starts (chars text) → m ≤ length text → n ≡ suc m → ((front back : List ℕ) → starts ≡ front ++ back → AllUnder n front → AllFrom n back → count ≡ length front) → (1 ≤ count) × (count ≤ length starts) × (get_or starts (count - 1) 0 ≤ m)
 searched text starts m n count u is within next count_is =
@@ -144,8 +144,8 @@ moved_starts bs starts to moved u is within moved_is =
     let moved_here : moved ≡ length far_front = moved_is far_front _ (old ∙ far.whole) (subst (λ k. AllUnder k far_front) next far.under) (subst (λ k. AllFrom k (starts_after (suc to) (drop to bs) [])) next far.from) in
     (λ i. drop (moved_here i) ((old ∙ far.whole) i)) ∙ drop-append_seam far_front _
 
--- The table of a text with a replaced part has the starts before the part, the starts in the new
--- bytes, and the later starts, moved.
+-- The table of a text with a replaced part consists of the starts before the part, the starts in
+-- the new bytes, and the later starts, moved.
 pub mended_starts : (bs new starts later : List ℕ) (from to kept moved : ℕ) → IsUtf8 bs → starts ≡ line_starts (chars bs) → from ≤ to → to ≤ length bs → ((front back : List ℕ) → starts ≡ front ++ back → AllUnder from front → AllFrom from back → kept ≡ length front) → ((front back : List ℕ) → starts ≡ front ++ back → AllUnder (to + 1) front → AllFrom (to + 1) back → moved ≡ length front) → later ≡ starts_after from (get_or (LF ∷ bs) from 0 ∷ new) (drop to bs) ++ map (λ s. s - to + (from + length new)) (drop moved starts) → IsUtf8 ((take from bs ++ new) ++ drop to bs) → take kept starts ++ later ≡ line_starts (chars ((take from bs ++ new) ++ drop to bs))
 mended_starts bs new starts later from to kept moved u is order within kept_is moved_is later_is v =
     let old : starts ≡ starts_after 0 (LF ∷ bs) [] = is ∙ table bs u in

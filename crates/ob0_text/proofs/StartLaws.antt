@@ -47,8 +47,8 @@ following-append at (x ∷ xs) ys next = by_end (following-append (suc at) xs ys
         following-none at x (xs ++ ys) next (same ∙ e) ∙ more ∙ ap (λ k. starts_after (suc at) xs (ys ++ next) ++ starts_after k ys next) there
         ∙ sym (ap (λ t. t ++ starts_after (at + length (x ∷ xs)) ys next) (following-none at x xs (ys ++ next) e))
 
--- If two texts after a run both begin with an LF or both don't, a byte ends a line before the one
--- exactly if it does before the other.
+-- If two texts after a run both begin with an LF or both don't, a byte of the run ends a line
+-- before both or before neither.
 same_end : (x : ℕ) (xs next other : List ℕ) → starts_with_lf next ≡ starts_with_lf other → ends_line x (xs ++ next) ≡ ends_line x (xs ++ other)
 unfolding ends_line starts_with_lf
 same_end x [] next other h = ap (λ b. x == LF || (x == CR && not b)) h
