@@ -55,8 +55,8 @@ status_at end.InputEnd = 1
 status_at end.CallBound = 1
 status_at end.TurnBound = 1
 
--- Holds if the output has failed exactly as the fault says: it has failed after `Write`; with any
--- other fault it has failed only if it had before.
+-- Holds if the output has failed exactly as the fault says. After `Write` it has failed, and after
+-- any other fault it has failed exactly if it had before.
 abbrev pub IsOfOutput : (before after : Bool) → FileFault → Type 0
 IsOfOutput before after f =
     (f ≡ fault.Write → after ≡ true) × (f ≢ fault.Write → after ≡ before)

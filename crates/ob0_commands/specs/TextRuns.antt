@@ -31,8 +31,8 @@ pub record IsLoweredTo (text : List ℕ) (program : Program) : Type 0 where
   pub well_typed : WellTyped tree
   pub runs : lowered.RunsAs tree program
 
--- Holds if known bytes grow by the output of this run of the file's module. The run's input are the
--- numbers that the known bytes of the reader spell.
+-- Holds if known bytes grow by the output of this run of the file's module. If the reader's bytes
+-- are known, the run's input are the numbers that they spell.
 pub record PrintsRun (file : List ℕ) (given : Option (List ℕ)) (c t : ℕ)
     (before after : Option (List ℕ)) (r : Run) : Type 0 where
   pub input : List ℤ

@@ -212,8 +212,8 @@ ReadsDesignator room ts at (Ok x) =
     × ¬ Starts 1 (rest ts x.1)
 ReadsDesignator room ts at (Err e) = FailsToRead (name ∷ node (items selector) room ∷ []) ts at e
 
--- Holds if the operator is the one that the token is, or None if the token's rank r isn't an
--- operator's.
+-- Holds if the operator is the one that the token is. It is None if the token's rank isn't r, the
+-- rank of these operators.
 abbrev pub IsMarkOf : {A : Type 0} → (A → TokenKind) → ℕ → TokenKind → Option A → Type 0
 IsMarkOf mark r k (Some a) = k ≡ mark a
 IsMarkOf mark r k None = kind_rank k ≢ r

@@ -4,7 +4,7 @@ use Rattle.std.specs.Prelude.{◌-◌, ℕ, ℤ, negsuc, List, codes}
 use Rattle.ob0_rpc.specs.declared.incoming.RpcFault.{RpcFault}
 use Rattle.ob0_rpc.specs.declared.incoming.RpcFault.TheVariants.{NotJson, NotAMessage, UnknownMethod, BadParams, Memory}
 
--- Returns the negative number with this absolute value.
+-- Returns the number -n, for n of at least 1.
 abbrev pub minus : ℕ → ℤ
 minus n = negsuc (n - 1)
 

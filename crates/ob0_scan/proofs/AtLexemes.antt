@@ -67,7 +67,7 @@ pub full_parts : (xs ys : List Lexeme) → Full (xs ++ ys) → Full xs × Full y
 full_parts [] ys h = (tt, h)
 full_parts (x ∷ xs) ys h = let more = full_parts xs ys h.1 in ((h.0, more.0), more.1)
 
--- Holds if the span isn't empty and is between the two places.
+-- Holds if the span isn't empty and lies between the places `low` and `high`.
 pub record Lies (low high : ℕ) (s : Span) : Type 0 where
   pub starts : low ≤ s.start
   pub some : s.start < s.end

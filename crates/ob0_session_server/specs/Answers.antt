@@ -78,8 +78,8 @@ pub data Reply : Type 0 where
 abbrev pub Sends : Data → List (List ℕ) → Type 0
 Sends message sent = (bytes : List ℕ) × (sent ≡ bytes ∷ []) × Writes message bytes
 
--- Holds if sending these contents is this reply. The diagnostics are the text's. If the text isn't a module by the
--- grammar, there is one, at the token at which the parser stops.
+-- Holds if these contents are this reply: nothing, this message, or one message with the text's diagnostics or with the
+-- answer about the text.
 abbrev pub SaysReply : Reply → List (List ℕ) → Type 0
 SaysReply nothing sent = sent ≡ []
 SaysReply (says message) sent = Sends message sent
