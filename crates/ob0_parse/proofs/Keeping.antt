@@ -20,7 +20,7 @@ pub count_lexemes : (i : ℕ) (ts : List Token) → length (lexemes_from i ts) �
 count_lexemes i [] = refl
 count_lexemes i (t ∷ ts) = let h = count_lexemes (i + 1) ts in omega (arith, h)
 
--- A token that is named by its index is the same whatever its value.
+-- An integer's lexeme at an index has the index in place of the value, so the value doesn't matter.
 pub by_kind : (i : ℕ) (k : TokenKind) → lexeme_of i (valueless k) ≡ lexeme_of i k
 by_kind i kind.Identifier = refl
 by_kind i (kind.Reserved word) = refl
