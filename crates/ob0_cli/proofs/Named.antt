@@ -1,4 +1,4 @@
--- Laws of the subcommand in clap's matches.
+-- Proves that clap's matches have a subcommand with all the arguments that it needs.
 use Rattle.std.proofs.Common.{zero, suc, ◌≡◌, ◌∙◌, ℕ, List, [], ◌∷◌, true, false, Bool, Option, Some, None, codes, refl, sym, ap, ap₂, subst, inl, inr}
 use Rattle.std.specs.Prelude.{Box, pos, is_some, not, ◌&&◌, ◌||◌, find, option_map}
 use Rattle.std.specs.Option.{option_map_or}
@@ -36,11 +36,11 @@ simple_and_free = refl
 
 -- ---- the subcommands
 
--- a subcommand of this name has all the arguments that it needs if its words have no fault
+-- Holds if words that have no fault give this subcommand all the arguments that it needs.
 abbrev Needs : Shape → Type 0
 Needs s = (words : List Text) → level_fault s [] nothing_held words false [] ≡ [] → NeedsAt s.name (rows_after s.rules [] words)
 
--- the same holds if a word other than `help` selects the subcommand
+-- Holds if a word other than `help` that selects the subcommand implies `Needs`.
 abbrev NeedsNamed : Shape → Type 0
 NeedsNamed s = (word : Text) → answers_to word (label_of s) ≡ true → bytes_eq word (codes "help") ≡ false → Needs s
 
@@ -61,7 +61,8 @@ at_run = nth 2 subs
 abbrev at_rename : Shape
 at_rename = nth 3 subs
 
--- an argument after the command is built, with its place among the positional arguments
+-- Returns an argument as it is after the command is built, with its index among the positional
+-- arguments.
 abbrev placed : ℕ → Rule → Rule
 placed i a = with_index i (filled a)
 
@@ -152,7 +153,7 @@ rename_needs words e =
       has_text at_rename.rules rows (codes "name") (required_passed at_rename words refl e rename_fits (placed 4 (word_rule (codes "name"))) refl refl),
     )))
 
--- only the word `help` selects the subcommand that clap adds
+-- The subcommand that clap adds is selected only by the word `help`.
 help_needs : NeedsNamed (nth 4 subs)
 unfolding clap_on_literals nth
 help_needs word named other words e = absurd (unnamed (bytes_eq (codes "help") word) refl named)
@@ -174,7 +175,8 @@ enabled = refl
 
 -- ---- from the words
 
--- the selected subcommand has no fault
+-- If the walk ends at a subcommand other than `help` and that subcommand has no fault, it has all
+-- the arguments that it needs.
 entered_needs : (stop : Option (Text × List Text)) → IsNoHelp stop → entered_fault (built ob0_app) stop ≡ [] → is_some (entered (built ob0_app) stop) ≡ true
     → HasNeeded (entered (built ob0_app) stop)
 entered_needs None other e there = cc
@@ -188,7 +190,7 @@ entered_needs (Some p) other e there = go (find (λ s. answers_to p.0 (label_of 
         let found = found_of NeedsNamed subs all_need (λ s. answers_to p.0 (label_of s)) s is in
         (s.name, rows_after s.rules [] p.1, refl, found.0 p.0 found.1 other p.1 e)
 
--- words without a fault that select a subcommand give it all the arguments that it needs
+-- If words that have no fault select a subcommand, it has all the arguments that it needs.
 words_need : (words : List Text) → fault_of ob0_app words ≡ [] → is_some (subcommand_of ob0_app words) ≡ true → HasNeeded (subcommand_of ob0_app words)
 words_need words e there =
     let top = (built ob0_app).top in
@@ -211,7 +213,8 @@ mapped_some : {A B : Type 0} (f : A → B) (o : Option A) → is_some o ≡ true
 mapped_some f None e = e
 mapped_some f (Some a) e = refl
 
--- clap's matches hold the subcommand that the words select, with all the arguments that it needs
+-- If the words have no fault, clap's matches have the subcommand that the words select, with all
+-- the arguments that it needs.
 pub parsed : (c : Command) (words : List Text) (m : ArgMatches) → app_of c ≡ ob0_app → fault_of ob0_app words ≡ [] → IsParsedFrom c m → HasMatchesOf (app_of c) words m
     → (subcommand_rows_of m ≡ subcommand_of ob0_app words) × HasNeeded (subcommand_rows_of m)
 parsed c words m is none from matches =
@@ -241,7 +244,8 @@ named_rows m name rows n r = go (out-ArgMatches m).subcommand n r
     go None n r = cc
     go (Some b) n r = ap₂ (λ (t : Text) (rs : List Row). Some (t, rs)) (sym (ap (first_or name) n)) (sym (ap (rows_or rows) r))
 
--- the name and the rows that the getter of the subcommand returns
+-- The getter of the subcommand returns its name and rows, and the subcommand has all the arguments
+-- that it needs.
 pub entered_is : (m given : ArgMatches) (name : Text) → HasNeeded (subcommand_rows_of m) → Some name ≡ subcommand_name_of m
     → Some (rows_of (found_in given)) ≡ option_map (λ p. p.1) (subcommand_rows_of m)
     → (subcommand_rows_of m ≡ Some (name, rows_of (found_in given))) × NeedsAt name (rows_of (found_in given))

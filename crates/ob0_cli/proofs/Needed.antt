@@ -1,11 +1,12 @@
--- The needs of a subcommand follow from its name, because the names differ.
+-- Proves that the needs of a subcommand follow from its name, because the names differ.
 use Rattle.std.proofs.Common.{◌≡◌, ◌∙◌, ℕ, List, false, true, length, get_or, codes, sym, ap, inl, inr, arith}
 use Rattle.std.specs.Str.{bytes_eq}
 use Rattle.std.proofs.lemmas.Slice.Eq.{bytes_eq-Decides}
 use Rattle.clap.specs.Words.{Row, Text}
 use Rattle.ob0_cli.specs.Given.{HasBounded, HasPlace, HasText, NeedsAt}
 
--- the first letter tells a name apart from all others except one
+-- Returns the first letter of a name, or 0 if the name is empty. It distinguishes a name from all
+-- others except one.
 first : Text → ℕ
 first name = get_or name 0 0
 

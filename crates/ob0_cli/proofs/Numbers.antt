@@ -1,4 +1,4 @@
--- Laws of the numbers that the getters read from a value that passed its parser.
+-- Proves that the getters of numbers return the number of a value that passed its parser.
 use Rattle.std.proofs.Common.{◌≡◌, ◌<◌, ◌≤◌, ◌^◌, ℕ, Bool, true, false, List, Option, Some, None, arith, codes, refl}
 use Rattle.std.specs.Prelude.{Result, Err, pos, if◌then◌else◌}
 use Rattle.std.specs.Str.{bytes_eq}
@@ -17,13 +17,14 @@ small id = go (bytes_eq id (codes "calls"))
     go false = omega arith
 
 module _ {E : Type 0} (G : List ℕ → Result ℕ E → Type 0) where
-  -- a number within the bounds of an argument
+  -- If the value of a bounded option passed its parser, the getter returns a number within the
+  -- option's bounds.
   pub bounded_reads : (id text : List ℕ) (r : Option ℕ) → ((u : List ℕ) (x : Result ℕ E) → G u x → ParsesUnsigned 32 10 u x)
       → ReadsOne G (without_minus text) r → IsSignedIn (pos 0) (pos (most_of id)) text
       → (n : ℕ) × (r ≡ Some n) × (0 ≤ n) × (n ≤ most_of id)
   bounded_reads id text r only read passed = signed_reads E G 32 0 (most_of id) text r read only (small id) passed
 
-  -- a number of 64 bits
+  -- If the value of an argument passed its parser of 64 bits, the getter returns a number.
   pub place_reads : (text : List ℕ) (r : Option ℕ) → ((u : List ℕ) (x : Result ℕ E) → G u x → ParsesUnsigned 64 10 u x)
       → ReadsOne G text r → IsUnsignedIn 0 18446744073709551615 text → (n : ℕ) × (r ≡ Some n)
   place_reads text (Some n) only read passed = (n, refl)

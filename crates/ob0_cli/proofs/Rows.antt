@@ -1,4 +1,4 @@
--- Laws of the values of a subcommand's arguments after a parse without a fault.
+-- Proves laws about the values of a subcommand's arguments if the words have no fault.
 use Rattle.std.proofs.Common.{◌≡◌, ◌⊎◌, ◌∙◌, ◌++◌, ◌&&◌, ◌||◌, Bool, true, false, not, List, [], ◌∷◌, length, is_some, Option, Some, None, refl, sym, ap, subst, inl, inr, arith}
 use Rattle.std.specs.Prelude.{find, fold, if◌then◌else◌, slice_get, option_map, option_and_then}
 use Rattle.std.specs.Option.{option_map_or}
@@ -29,7 +29,7 @@ each_both : {A : Type 0} (P : A → Type 0) (xs ys : List A) → Each P xs → E
 each_both P [] ys p q = q
 each_both P (x ∷ xs) ys p q = (p.0, each_both P xs ys p.1 q)
 
--- the item found is one of the items
+-- If all items of a list satisfy P, the item that was found satisfies P and passes the test.
 pub found_of : {A : Type 0} (P : A → Type 0) (xs : List A) → Each P xs → (p : A → Bool) (a : A) → find p xs ≡ Some a → P a × (p a ≡ true)
 found_of P [] all p a e = cc
 found_of {A} P (x ∷ xs) all p a e = go (p x) refl e (found_of P xs all.1 p a)
@@ -40,7 +40,8 @@ found_of {A} P (x ∷ xs) all p a e = go (p x) refl e (found_of P xs all.1 p a)
         subst (λ y. P y × (p y ≡ true)) same (all.0, is)
     go false is e later = later e
 
--- a row has a value that is in the relation R with the row's name and its parser
+-- Holds if the row has a first value, and R holds for the row's name, that value and the row's
+-- reading.
 pub record Meets (R : Text → Text → Reading → Type 0) (r : Row) : Type 0 where
   pub value : Text
   pub more : List Text
@@ -69,7 +70,8 @@ module _ (R : Text → Text → Reading → Type 0) where
 
 -- ---- the parser that an argument's value has passed
 
--- the value passed the argument's parser, which gives its meaning
+-- Holds if the value passed the parser of the argument with this name, and `how` is the reading of
+-- that parser.
 pub record Passed (rules : List Rule) (id : Text) (value : Text) (how : Reading) : Type 0 where
   pub rule : Rule
   pub own : arg_by_id rules id ≡ Some rule
@@ -79,13 +81,13 @@ pub record Passed (rules : List Rule) (id : Text) (value : Text) (how : Reading)
 abbrev pub one : ValueRange
 one = record { start_inclusive = 1; end_inclusive = 1 }
 
--- an argument with one value
+-- Holds if the argument takes exactly one value, and is the argument of its name.
 pub record TakesOne (rules : List Rule) (a : Rule) : Type 0 where
   pub set : action_of a ≡ Set
   pub range : unwrap_or_range a.range ≡ one
   pub own : arg_by_id rules a.id ≡ Some a
 
--- or a flag that asks for help
+-- Holds if the argument takes exactly one value, or is a flag without defaults that requests help.
 abbrev pub Fits : List Rule → Rule → Type 0
 Fits rules a = TakesOne rules a ⊎ ((action_of a ≡ Help) × (a.defaults ≡ []))
 
@@ -134,7 +136,7 @@ defaults_kept rules (a ∷ rest) fits rows e k =
 
 -- ---- a subcommand's rows
 
--- the four steps of its parse
+-- Holds if the four steps of the subcommand's parse have no fault.
 record Fine (s : Shape) (words : List Text) : Type 0 where
   walking : walk_fault s [] (walk_from nothing_held) words ≡ []
   settling : settle_fault s.rules s.args_override_self (walk s.rules [] nothing_held words).held ≡ []
@@ -162,7 +164,7 @@ rows_kept s words fits e =
     let held : Held s.rules end.rows = walk_kept (Held s.rules) s [] keeps words (walk_from nothing_held) f.walking tt in
     defaults_kept s.rules s.rules fits (settled s.rules end).rows f.defaulting (settle (Held s.rules) s.rules s.args_override_self keeps end f.settling held)
 
--- nothing in the list has the property
+-- If no item of a list passes the test q, the item that was found doesn't pass it.
 none_of : {A : Type 0} (q : A → Bool) (xs : List A) → list_any q xs ≡ false → (p : A → Bool) (a : A) → find p xs ≡ Some a → q a ≡ false
 none_of q [] none p a e = cc
 none_of {A} q (x ∷ xs) none p a e = go (p x) (q x) refl none e (λ rest. none_of q xs rest p a)
@@ -175,7 +177,7 @@ none_of {A} q (x ∷ xs) none p a e = go (p x) (q x) refl none e (λ rest. none_
         subst (λ y. q y ≡ false) same is
     go false false is none e later = later none e
 
--- every required argument was given
+-- If the words have no fault, every required argument was given.
 required_given : (s : Shape) (words : List Text) → s.subcommand_negates_reqs ≡ false → level_fault s [] nothing_held words false [] ≡ []
     → list_any (λ a. a.required && not (is_given a.id (rows_after s.rules [] words))) s.rules ≡ false
 required_given s words plain e = third _ _ _ (rw plain at (fine s words e).checking)
@@ -188,7 +190,7 @@ required_given s words plain e = third _ _ _ (rw plain at (fine s words e).check
 
 -- ---- the values in the row of an id
 
--- the argument's first value, as text and as a number's text
+-- Holds if the argument has a first value that passed its parser, and `one_of` reads that value.
 pub record HasPassed (rules : List Rule) (rows : List Row) (id : Text) : Type 0 where
   pub value : Text
   pub how : Reading
@@ -254,7 +256,7 @@ at_there id other change missing changed (r ∷ rs) there = go (bytes_eq r.id ot
     go false true is there later = rw is refl
     go false false is there later = rw is (later there)
 
--- a new row is found
+-- After a row is changed or added, there is a row with its name.
 at_new : (id : Text) (change : Row → List Row) (new : Row) → new.id ≡ id → ((r : Row) → (new : Row) × (change r ≡ new ∷ []) × (new.id ≡ r.id))
     → (rows : List Row) → is_some (find (λ r. bytes_eq r.id id) (at_row id change (new ∷ []) rows)) ≡ true
 at_new id change new is changed [] = rw (is, (bytes_eq-Decides id id).1 refl) refl
@@ -285,7 +287,7 @@ row_found id (r ∷ rs) e = go (bytes_eq r.id id) e (row_found id rs)
     go true e later = refl
     go false e later = later e
 
--- an argument with a default has a row after its own default
+-- After the default of an argument was applied, the argument has a row.
 own_default : (a : Rule) (v : Text) (vs : List Text) → a.defaults ≡ v ∷ vs → (rows : List Row) → is_some (find (λ r. bytes_eq r.id a.id) (with_default rows a)) ≡ true
 own_default a v vs is rows = go (has_row a.id rows) refl
   where
@@ -320,7 +322,7 @@ default_passed s words e fits a v vs is defaults =
 
 -- ---- by the argument
 
--- the value passed this argument's parser
+-- If this argument has the name, the value passed this argument's parser and is read by it.
 pub passed_by : (rules : List Rule) (a : Rule) (id value : Text) (how : Reading) → arg_by_id rules id ≡ Some a → Passed rules id value how
     → (accepts a.ignore_case (parser_of_value a.parser) value ≡ true) × (how ≡ reading_by a)
 passed_by rules a id value how is passed =

@@ -1,4 +1,4 @@
--- A walk without a fault never enters `help` if that is a subcommand.
+-- Proves that a walk without a fault never stops at `help`, if `help` is a subcommand.
 use Rattle.std.proofs.Common.{◌≡◌, ◌&&◌, Bool, true, false, not, List, [], ◌∷◌, ℕ, is_some, Option, Some, None, codes, refl}
 use Rattle.std.specs.Prelude.{fold, if◌then◌else◌}
 use Rattle.std.specs.Str.{bytes_eq}
@@ -11,7 +11,7 @@ use Rattle.clap.specs.Kinds.{or_else}
 use Rattle.clap.specs.declared.error.kind.ErrorKind.TheVariants.{DisplayHelp, InvalidSubcommand}
 use Rattle.ob0_cli.proofs.Walked.{neither}
 
--- the walk did not stop at `help`
+-- Holds if the walk didn't stop, or stopped at a word other than `help`.
 abbrev pub IsNoHelp : Option (Text × List Text) → Type 0
 IsNoHelp None = Unit {0}
 IsNoHelp (Some p) = bytes_eq p.0 (codes "help") ≡ false

@@ -1,4 +1,5 @@
--- Laws of the rows that a walk without a fault leaves for a simple command's own arguments.
+-- Proves laws about the rows that a walk without a fault leaves for the arguments of a simple
+-- command.
 use Rattle.std.proofs.Common.{zero, suc, ◌≡◌, ◌&&◌, ℕ, Bool, true, false, List, [], ◌∷◌, length, is_some, Option, Some, None, refl}
 use Rattle.std.specs.Prelude.{find, fold, if◌then◌else◌, drop, encode_utf8, slice_get}
 use Rattle.std.specs.Option.{option_map_or}
@@ -16,7 +17,7 @@ pub neither : (a b : Kinds) → or_else a b ≡ [] → (a ≡ []) × (b ≡ [])
 neither [] b e = (refl, e)
 neither (k ∷ ks) b e = cc
 
--- a use of the argument without a fault keeps the property of the rows
+-- Holds if using the argument without a fault preserves the property K of the rows.
 abbrev pub Keeps : (List Row → Type 0) → Bool → Rule → Type 0
 Keeps K again a = (values : List Text) (rows : List Row) → use_fault again a values rows ≡ [] → K rows → K (used a values rows)
 

@@ -1,4 +1,4 @@
--- Defines the command line that words give.
+-- Defines the command line that a list of words spells.
 -- Rule: docs/PROTOCOL.md, The program; clap's definition of a command line.
 use Rattle.std.specs.Prelude.{◌≡◌, ◌⊎◌, ◌≤◌, ℕ, List, [], Option, Some, codes, if◌then◌else◌, pos}
 use Rattle.std.specs.Str.{bytes_eq}
@@ -14,18 +14,19 @@ use Rattle.ob0_cli.specs.declared.line.CommandLine.TheVariants.{Serve, Check, Ru
 use Rattle.ob0_cli.specs.declared.line.CommandFault.{CommandFault}
 use Rattle.ob0_cli.specs.declared.line.CommandFault.TheVariants.{Refused, Memory}
 
--- a subcommand and the values found for its arguments
+-- The subcommand that was found, with the values of its arguments, or None.
 abbrev pub FoundCommand : Type 0
 FoundCommand = Option (Text × List Row)
 
--- the number of an argument, given or by default
+-- Holds if this number is the value of the argument, given or by default.
 abbrev pub IsNumber : Text → List Row → ℕ → Type 0
 IsNumber id rows n =
     (digits : Text)
     × (one_of id rows ≡ Some digits)
     × (n ≡ digits_value 10 (without_leading_plus digits))
 
--- the line is for the subcommand of this name, with the values found
+-- Holds if the command line is of the subcommand with this name, and has the values found for its
+-- arguments.
 abbrev pub HoldsValues : Text → List Row → CommandLine → Type 0
 HoldsValues name rows Serve = name ≡ codes "serve"
 HoldsValues name rows (Check file) =
@@ -42,25 +43,26 @@ HoldsValues name rows (Rename file position new) =
     × IsNumber (codes "column") rows position.character
     × (first_of (codes "name") rows ≡ Some new.now)
 
--- the command reads the file at this path
+-- Holds if the command reads the file at this path.
 abbrev pub NamesFile : CommandLine → Text → Type 0
 NamesFile Serve path = ⊥
 NamesFile (Check file) path = file.now ≡ path
 NamesFile (Run file calls turns) path = file.now ≡ path
 NamesFile (Rename file position new) path = file.now ≡ path
 
--- the command that was found, with its values, is this command line
+-- Holds if the subcommand found, with its values, is this command line.
 abbrev pub IsReadFrom : FoundCommand → CommandLine → Type 0
 IsReadFrom found line =
     (name : Text) × (rows : List Row) × (found ≡ Some (name, rows)) × HoldsValues name rows line
 
--- the words have no fault, and the line is read from them
+-- Holds if the words have no fault by the definition of `ob0`, and their subcommand is this command
+-- line.
 pub record Gives (words : List Text) (line : CommandLine) : Type 0 where
   pub fine : fault_of ob0_app words ≡ []
   pub read : IsReadFrom (subcommand_of ob0_app words) line
 
--- a refusal is of the kind of the first fault that the words have,
--- and never of the kind 'out of memory'
+-- Holds if the words may be refused so. The error's kind is the kind of their first fault, and
+-- never 'out of memory'. A failed allocation is allowed for any words.
 abbrev pub RefusesWords : List Text → CommandFault → Type 0
 RefusesWords words (Refused error) =
     IsAmong (kind_of error) (fault_of ob0_app words) × ¬ (kind_of error ≡ OutOfMemory)
@@ -68,27 +70,28 @@ RefusesWords words Memory = Unit {0}
 
 -- ---- the values that clap's matches have
 
--- the argument has a text
+-- Holds if the argument has a text as its value.
 abbrev pub HasText : Text → List Row → Type 0
 HasText id rows = (text : Text) × (first_of id rows ≡ Some text)
 
--- the greatest numbers that `--calls` and `--turns` accept
+-- Returns the greatest number that `--calls` accepts for the name `calls`, and the one that
+-- `--turns` accepts for any other name.
 abbrev pub most_of : Text → ℕ
 most_of id = if bytes_eq id (codes "calls") then max_calls else max_turns
 
--- the option has a number within its bounds
+-- Holds if the option has a number from 0 to the greatest that it accepts.
 abbrev pub HasBounded : Text → List Row → Type 0
 HasBounded id rows =
     (text : Text)
     × (one_of id rows ≡ Some (without_minus text))
     × IsSignedIn (pos 0) (pos (most_of id)) text
 
--- the argument has a number of 64 bits
+-- Holds if the argument has an unsigned number of 64 bits.
 abbrev pub HasPlace : Text → List Row → Type 0
 HasPlace id rows =
     (text : Text) × (one_of id rows ≡ Some text) × IsUnsignedIn 0 18446744073709551615 text
 
--- each argument that the subcommand of this name needs has a value
+-- Holds if each argument that the subcommand of this name needs has a value.
 abbrev pub NeedsAt : Text → List Row → Type 0
 NeedsAt name rows = (name ≡ codes "serve") ⊎ ((name ≡ codes "check") × HasText (codes "file") rows)
     ⊎ ((name ≡ codes "run")
@@ -101,7 +104,7 @@ NeedsAt name rows = (name ≡ codes "serve") ⊎ ((name ≡ codes "check") × Ha
     × HasPlace (codes "column") rows
     × HasText (codes "name") rows)
 
--- the subcommand found has all the arguments that it needs
+-- Holds if a subcommand was found and has all the arguments that it needs.
 abbrev pub HasNeeded : FoundCommand → Type 0
 HasNeeded found =
     (name : Text) × (rows : List Row) × (found ≡ Some (name, rows)) × NeedsAt name rows

@@ -5,23 +5,23 @@ use Rattle.clap.specs.Words.{App, Rule, Text, new_app, new_rule, with_rule, with
 use Rattle.clap.specs.declared.builder.ArgAction.TheVariants.{Set, SetTrue}
 use Rattle.clap.specs.declared.builder.value_parser.ValueParser.TheVariants.{Signed, Unsigned}
 
--- a word that is required; help has a name for its value, as for each value
+-- Returns the rule of a required word. Help has a name for its value, as for each value.
 abbrev pub word_rule : Text → Rule
 word_rule id = record (new_rule id) { action = Some Set; value_names = 1; required = true }
 
--- a number of 64 bits that is required
+-- Returns the rule of a required unsigned number of 64 bits.
 abbrev pub number_rule : Text → Rule
 number_rule id = record (word_rule id) { parser = Some (Unsigned 0 18446744073709551615) }
 
--- the most calls that may be open at a time in a run
+-- The greatest number of calls that may be open at a time in a run.
 abbrev pub max_calls : ℕ
 max_calls = 64
 
--- the most iterations of a loop
+-- The greatest number of iterations of a loop in a run.
 abbrev pub max_turns : ℕ
 max_turns = 100000
 
--- at most 64, and 64 by default
+-- The rule of `--calls`: a number from 0 to 64, by default 64.
 abbrev pub calls_rule : Rule
 calls_rule = record (new_rule (codes "calls")) {
   long = Some (codes "calls");
@@ -30,7 +30,7 @@ calls_rule = record (new_rule (codes "calls")) {
   defaults = codes "64" ∷ [];
 }
 
--- at most 100,000, and 100,000 by default
+-- The rule of `--turns`: a number from 0 to 100,000, by default 100,000.
 abbrev pub turns_rule : Rule
 turns_rule = record (new_rule (codes "turns")) {
   long = Some (codes "turns");
@@ -39,37 +39,40 @@ turns_rule = record (new_rule (codes "turns")) {
   defaults = codes "100000" ∷ [];
 }
 
--- LSP 3.17, implementation considerations: the transport, which is always standard input and output
+-- The rule of `--stdio`, which selects standard input and output (LSP 3.17, implementation
+-- considerations). They are always used.
 abbrev pub stdio_rule : Rule
 stdio_rule =
     record (new_rule (codes "stdio")) { long = Some (codes "stdio"); action = Some SetTrue }
 
--- the same section: the process of the client; any word is accepted, and nothing depends on it
+-- The rule of `--clientProcessId`, the process of the client (LSP 3.17, implementation
+-- considerations). Any word is accepted, and nothing depends on it.
 abbrev pub client_rule : Rule
 client_rule =
     record (new_rule (codes "client")) { long = Some (codes "clientProcessId"); value_names = 1 }
 
--- each option of `serve` may be given several times, because clients add options to the user's own
+-- The subcommand `serve` without its options. Each of them may be given several times, because
+-- clients add options to the user's own.
 abbrev pub serve_alone : App
 serve_alone =
     record (new_app (codes "serve"))
     { top = record (new_app (codes "serve")).top { args_override_self = true } }
 
--- `serve` accepts no words except these options
+-- The subcommand `serve`, which accepts no words except its two options.
 abbrev pub serve : App
 serve = with_rule (with_rule serve_alone stdio_rule) client_rule
 
--- `ob0 check FILE`
+-- The subcommand `ob0 check FILE`.
 abbrev pub check : App
 check = with_rule (new_app (codes "check")) (word_rule (codes "file"))
 
--- `ob0 run FILE [--calls N] [--turns N]`
+-- The subcommand `ob0 run FILE [--calls N] [--turns N]`.
 abbrev pub run : App
 run =
     with_rule (with_rule (with_rule (new_app (codes "run")) (word_rule (codes "file"))) calls_rule)
     turns_rule
 
--- `ob0 rename FILE LINE COLUMN NAME`
+-- The subcommand `ob0 rename FILE LINE COLUMN NAME`.
 abbrev pub rename : App
 rename =
     with_rule (with_rule (with_rule (with_rule (new_app (codes "rename"))
@@ -78,13 +81,13 @@ rename =
     (number_rule (codes "column")))
     (word_rule (codes "name"))
 
--- the program has a version, and one subcommand is required
+-- The program without its subcommands. It has a version, and one subcommand is required.
 abbrev pub ob0_alone : App
 ob0_alone =
     record (new_app (codes "ob0"))
     { top = record (new_app (codes "ob0")).top { subcommand_required = true; has_version = true } }
 
--- the program with its four subcommands; clap adds `help`
+-- The program with its four subcommands. clap adds the subcommand `help`.
 abbrev pub ob0_app : App
 ob0_app =
     with_subcommand

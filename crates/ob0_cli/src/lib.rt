@@ -1,4 +1,4 @@
-//! The command line, by clap (docs/PROTOCOL.md, The program).
+//! Reads the command line with clap (docs/PROTOCOL.md, The program).
 #![tactic(auto)]
 
 mod line;

@@ -1,5 +1,5 @@
--- The numbers read so far, followed by the numbers of the rest, are the numbers of the text; and the rest is a list of
--- numbers if the text is one.
+-- Proves the loop that reads numbers: the numbers read so far, followed by the numbers of the rest, are the numbers of
+-- the text. The rest is a list of numbers if the text is one.
 use Rattle.std.proofs.Common.{◌≡◌, ◌∙◌, ℕ, ◌+◌, ◌-◌, ◌<◌, ◌≤◌, suc, Bool, true, false, List, [], ◌∷◌, ◌++◌, ℤ, length, drop, take, refl, sym, ap, subst, append_assoc, append-nil, arith, IsTrue, slice_index}
 use Rattle.std.specs.List.{position_or_len, slice_range}
 use Rattle.std.proofs.Math.Seq.{drop-cons}
@@ -29,7 +29,7 @@ space_passed text at ns inside is g =
           (after_space (drop at text) here.0 here.1 (slice_index text at) (drop (suc at) text) (drop-cons text at 0 inside) is);
     }
 
--- the rest after the first word is empty or begins with white space
+-- The rest after the first word is empty or begins with white space.
 pub ends_before : (text : List ℕ) → EndsWord (drop (position_or_len is_space text) text)
 ends_before [] = tt
 ends_before (b ∷ text) = go (is_space b) refl (ends_before text)
@@ -44,20 +44,21 @@ ends_before (b ∷ text) = go (is_space b) refl (ends_before text)
         let further : position_or_len is_space (b ∷ text) ≡ suc (position_or_len is_space text) = counted ∙ omega arith in
         subst (λ n. EndsWord (drop n (b ∷ text))) (sym further) more
 
--- the end of the word at a place
+-- The end that the code computes for the word at a place is the first white space after that place.
 word_end : (text : List ℕ) (at end : ℕ) → end ≡ at + position_or_len is_space (take (length text - at) (drop at text)) → end ≡ at + position_or_len is_space (drop at text)
 word_end text at end is =
     let all : take (length text - at) (drop at text) ≡ drop at text = take_all (length text - at) (drop at text) (omega (arith, length-drop at text)) in
     is ∙ ap (λ t. at + position_or_len is_space t) all
 
--- if the text is a list of numbers, the word at a place that isn't a space spells a number, and numbers follow
+-- If the text is a list of numbers, the word at a place that isn't a space spells a number. A list of numbers follows
+-- it.
 word_here : (text : List ℕ) (at : ℕ) (ns : List ℤ) → at < length text → is_space (slice_index text at) ≡ false → Gathered text at ns → IsListOfNumbers text → Begins (drop at text)
 word_here text at ns inside apart g all =
     let here = g.left all in
     let first : slice_index (drop at text) 0 ≡ slice_index text at = ap (λ t. slice_index t 0) (drop-cons text at 0 inside) in
     first_word (drop at text) here.0 here.1 (omega (arith, length-drop at text, inside)) (ap is_space first ∙ apart)
 
--- a word that isn't a number is in no list of numbers
+-- If the word at a place isn't a number, the text isn't a list of numbers.
 pub word_refused : (text : List ℕ) (at end : ℕ) (ns : List ℤ) → at < length text → is_space (slice_index text at) ≡ false → end ≡ at + position_or_len is_space (take (length text - at) (drop at text))
     → ¬ ((n : ℤ) × WritesNumber (slice_range text at end) n) → Gathered text at ns → ¬ IsListOfNumbers text
 word_refused text at end ns inside apart is none g = λ all.

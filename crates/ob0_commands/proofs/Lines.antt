@@ -1,4 +1,4 @@
--- Laws of lines that are gathered from positions and diagnostics, side by side.
+-- Proves laws about lines that are made from a list of diagnostics and a list of positions.
 use Rattle.std.proofs.Common.{◌≡◌, ℕ, ◌<◌, zero, suc, min, List, [], ◌∷◌, ◌++◌, codes, length, drop, map, get_or, refl, ap, ap₂, sym, ◌∙◌, arith, append_assoc, append-nil}
 use Rattle.std.specs.Fmt.{digits}
 use Rattle.std.specs.Str.{chars}
@@ -10,12 +10,13 @@ use Rattle.ob0_analysis.specs.Diagnosed.{complaint_in}
 use Rattle.ob0_analysis.specs.declared.diagnoses.Diagnosis.{Diagnosis}
 use Rattle.ob0_commands.specs.Printed.{complaint_lines, line_at, lines_at, too_long_line}
 
--- the line that the code writes for a text that is too long
+-- The literal that the code prints for a text that is too long is the defined line.
 pub too_long_text : too_long_line ≡ codes "0:0: TooLong: text too long\n"
 unfolding digits
 too_long_text = refl
 
--- the lines so far and the remaining lines are all lines
+-- Holds if the first n lines, followed by the lines of the remaining diagnostics, are the lines of
+-- all diagnostics.
 abbrev pub Gathered : List Diagnosis → List Position → ℕ → List ℕ → Type 0
 Gathered ds ps n lines = lines ++ lines_at (drop n ps) (map complaint_in (drop n ds)) ≡ lines_at ps (map complaint_in ds)
 
@@ -46,7 +47,7 @@ none_left (x ∷ ds) (y ∷ ps) (suc n) e = none_left ds ps n (omega arith)
 pub gathered_all : (ds : List Diagnosis) (ps : List Position) (n : ℕ) (lines : List ℕ) → Gathered ds ps n lines → n ≡ min (length ds) (length ps) → lines ≡ lines_at ps (map complaint_in ds)
 gathered_all ds ps n lines so_far e = sym (append-nil lines) ∙ ap (λ l. lines ++ l) (sym (none_left ds ps n e)) ∙ so_far
 
--- the positions belong to the places
+-- The lines at the positions of the diagnostics' starts are the lines of the diagnostics.
 pub placed : (text : List ℕ) (ds : List Diagnosis) → lines_at (map (position_of (width_of Utf16) (chars text)) (map (λ (d : Diagnosis). d.span.start) ds)) (map complaint_in ds) ≡ complaint_lines text (map complaint_in ds)
 placed text [] = refl
 placed text (d ∷ ds) = ap (λ l. line_at (position_of (width_of Utf16) (chars text) d.span.start) (complaint_in d) ++ l) (placed text ds)

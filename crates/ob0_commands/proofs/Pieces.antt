@@ -1,4 +1,4 @@
--- Laws of text that is written in pieces.
+-- Proves laws about text that is written in pieces.
 use Rattle.std.proofs.Common.{◌≡◌, ℕ, ◌+◌, ◌<◌, List, ◌∷◌, ◌++◌, None, Some, Option, length, get_or, drop, sym, ap, ◌∙◌, append_assoc}
 use Rattle.std.proofs.lemmas.List.{drop_more}
 use Rattle.std.specs.Io.KnownBytes.{Appends}
@@ -12,7 +12,8 @@ both_appended (Some x) None c bs cs p q = absurd p
 both_appended (Some x) (Some y) None bs cs p q = absurd q
 both_appended (Some x) (Some y) (Some z) bs cs p q = q ∙ ap (λ l. l ++ cs) p ∙ append_assoc x bs cs
 
--- appends an item
+-- After the next item is appended, the written text, the waiting text and the text of the remaining
+-- items still make up the text of all items.
 pub item_written : (a b c : Option (List ℕ)) (xs : List Item) (k : ℕ) (d x : Item) (text left : List ℕ)
     → IsWrittenBut a b (output_text (items_out xs)) (text ++ output_text (items_out (drop k xs))) → k < length xs → x ≡ get_or xs k d
     → IsWrittenBut b c (text ++ written_text (item_of x)) left → IsWrittenBut a c (output_text (items_out xs)) (left ++ output_text (items_out (drop (k + 1) xs)))

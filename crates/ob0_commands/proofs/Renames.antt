@@ -1,4 +1,5 @@
--- A text is printed only if the edits put the name into the file's text, and no text if the name is refused.
+-- Proves that a text is printed only if the edits put the name into the file's text. If the name is refused, no text is
+-- printed.
 use Rattle.std.proofs.Common.{◌≡◌, ℕ, List, Option, Some, Result, Ok, Err, Vec, Global, subst}
 use Rattle.std.specs.Str.{chars}
 use Rattle.ob0_text.specs.declared.edits.Edit.{Edit}
@@ -9,7 +10,7 @@ use Rattle.ob0_text.specs.declared.refusals.EditRefusal.{EditRefusal}
 use Rattle.ob0_edits.specs.Renamings.{FindsNewName}
 use Rattle.ob0_commands.specs.Renamed.{IsRefusal, PrintsEdited, PrintsRenamed, RefusesName}
 
--- the result for a store that holds the text
+-- The result for a store in UTF-16 units that holds the text is a result for the text.
 pub found_in_text : (unit : Unit) (content text : List ℕ) (place : Position) (new : List ℕ) (found : Option (Result (Vec Edit Global) EditRefusal)) (outcome : Result (Vec Edit Global) EditRefusal)
     → unit ≡ Utf16 → content ≡ chars text → found ≡ Some outcome → FindsNewName unit content place new found → FindsNewName Utf16 (chars text) place new (Some outcome)
 found_in_text unit content text place new found outcome counts holds is h =

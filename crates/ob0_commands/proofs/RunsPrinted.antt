@@ -1,4 +1,5 @@
--- The output printed for a text's run is the output for the file's run.
+-- Proves that the output printed for the run of a text is the output for the run of the file with
+-- that text.
 use Rattle.std.proofs.Common.{◌≡◌, ◌≢◌, ℕ, ℤ, Bool, List, Option, None, Result, Ok, Err, IfOk, IfSome, OnOk, inl, inr, refl, subst, arith}
 use Rattle.std.specs.Io.KnownBytes.{Appends}
 use Rattle.ob0_analysis.specs.Diagnosed.{IsWellTypedModule}
@@ -15,7 +16,7 @@ use Rattle.ob0_commands.specs.Printed.{PrintsFaults, end_line, output_text}
 use Rattle.ob0_commands.specs.Statuses.{HasNoText, StopsFor, StopsRunning, status_at}
 use Rattle.ob0_commands.specs.TextRuns.{IsLoweredTo, PrintsDone, PrintsOther, PrintsRun, TextRunsAs}
 
--- the run reached the end of the module's body
+-- If the status is 0, the run reached the end of the module's body.
 done : (e : End) (n : ℕ) → n ≡ status_at e → n ≡ 0 → end_in e ≡ end_in end.Done
 done end.Done n is zero = refl
 done end.Overflow n is zero = absurd (omega (arith, is, zero))
@@ -25,7 +26,7 @@ done end.InputEnd n is zero = absurd (omega (arith, is, zero))
 done end.CallBound n is zero = absurd (omega (arith, is, zero))
 done end.TurnBound n is zero = absurd (omega (arith, is, zero))
 
--- the run ended in another way
+-- If the status is 1, the run had another end.
 ended_otherwise : (e : End) (n : ℕ) → n ≡ status_at e → n ≡ 1 → end_in e ≢ end_in end.Done
 ended_otherwise end.Done n is one = absurd (omega (arith, is, one))
 ended_otherwise end.Overflow n is one = λ e. cc
@@ -59,7 +60,7 @@ pub prints_wrong : (file text : List ℕ) (given : Option (List ℕ)) (c t : ℕ
 prints_wrong file text given c t before mid after same kept wrong Said silent =
     inl (subst (λ (b : Option (List ℕ)). PrintsFaults file b after) kept (subst (λ (f : List ℕ). PrintsFaults f mid after) same wrong), silent)
 
--- there is no input for a run
+-- If reading the numbers fails, `run` may stop with that fault.
 pub stops_reading : (file text : List ℕ) (program : Program) (given : Option (List ℕ)) (failed : Bool) (Otherwise : Type 0) (f : FileFault) → text ≡ file → IsLoweredTo text program → ¬ (HasNoText file)
     → StopsFor fault.Input (HasNoNumbers given failed) Otherwise f → StopsRunning file given failed f
 stops_reading file text program given failed Otherwise f same lowered readable (inl none) =
@@ -67,7 +68,7 @@ stops_reading file text program given failed Otherwise f same lowered readable (
     inl (none.0, (subst IsWellTypedModule same module_there, none.1))
 stops_reading file text program given failed Otherwise f same lowered readable (inr memory) = inr (inr (inr memory.0, readable))
 
--- consequences of the facts about a status and a value
+-- If r is Ok, the facts about its value together imply the last fact about that value.
 pub from_all : {X E A B C D : Type 0} {P Q R S : X → Type 0} (r : Result X E) → ((x : X) → P x → Q x → R x → A → B → C → D → S x)
     → IfOk r P → IfOk r Q → IfOk r R → OnOk r A → OnOk r B → OnOk r C → OnOk r D → IfOk r S
 from_all (Ok x) f p q s a b c d = f x p q s a b c d

@@ -1,4 +1,4 @@
--- Laws of how much is read from a reader.
+-- Proves laws about how much is read from a reader.
 use Rattle.std.proofs.Common.{◌≤◌, ℕ, ◌+◌, List, ◌++◌, Option, length, length-append, arith}
 use Rattle.std.specs.Io.KnownBytes.{Consumes}
 use Rattle.std.proofs.KnownBytes.{Consumes-trans}

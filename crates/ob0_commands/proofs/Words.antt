@@ -1,4 +1,4 @@
--- Laws of the words of an input: a word that spells a number is all the bytes before the first white space.
+-- Proves that a word of an input that spells a number is all the bytes before the first white space.
 use Rattle.std.proofs.Common.{◌≡◌, ◌∙◌, ℕ, ℤ, ◌+◌, ◌<◌, ◌≤◌, ◌==◌, zero, suc, Bool, true, false, List, [], ◌∷◌, ◌++◌, length, drop, take, refl, sym, ap, subst, arith, slice_index}
 use Rattle.std.proofs.Math.Seq.{drop-append_seam, take-append_seam}
 use Rattle.std.proofs.lemmas.Bool.Decides.{nat_tests}
@@ -9,7 +9,7 @@ use Rattle.std.specs.Str.Parse.{AllDigits, IsNumeral}
 use Rattle.ob0_commands.specs.Numbers.{EndsWord, IsListOfNumbers, WritesNumber, WritesNumbers, nothing, number, space}
 use Rattle.ob0_scan.specs.Classes.{is_space}
 
--- each byte is from `-` to `9`
+-- Holds if each byte is from `-` to `9`.
 abbrev pub IsOfSignsAndDigits : List ℕ → Type 0
 IsOfSignsAndDigits [] = ⊤
 IsOfSignsAndDigits (c ∷ cs) = (45 ≤ c) × (c ≤ 57) × IsOfSignsAndDigits cs
@@ -50,7 +50,7 @@ first_is (c ∷ cs) after h e =
     let counted : position_or_len is_space (c ∷ (cs ++ after)) ≡ 1 + position_or_len is_space (cs ++ after) = rw no refl in
     counted ∙ ap (λ k. 1 + k) (first_is cs after h.2 e) ∙ omega arith
 
--- the rest after a space
+-- If a list of numbers begins with a space, the text after the space is a list of numbers.
 pub after_space : (text : List ℕ) (ns : List ℤ) → WritesNumbers text ns → (b : ℕ) (rest : List ℕ) → text ≡ b ∷ rest → is_space b ≡ true → IsListOfNumbers rest
 after_space text ns nothing b rest e is = absurd (cc)
 after_space text ns (space {text = more} {ns = ms} s h) b rest e is =
@@ -61,7 +61,7 @@ after_space text ns (number (c ∷ cs) after n cut w ends h) b rest e is =
     let first : b ≡ c = ap (λ t. slice_index t 0) (sym e ∙ cut) in
     absurd (no_space_first c cs (ap is_space (sym first) ∙ is) (is_plain (c ∷ cs) n w))
 
--- the first word and the rest
+-- Holds if the bytes before the first white space spell a number, and the rest is a list of numbers.
 pub record Begins (text : List ℕ) : Type 0 where
   pub n : ℤ
   pub word : WritesNumber (take (position_or_len is_space text) text) n

@@ -1,4 +1,4 @@
--- The diagnostics of a text are the diagnostics of its file.
+-- Proves that the lines printed for a text are the lines for its file.
 use Rattle.std.proofs.Common.{◌≡◌, ◌∙◌, ℕ, List, [], ◌∷◌, Option, false, nat_eq, length, map, encode_utf8_all, inl, inr, ap, subst}
 use Rattle.std.proofs.lemmas.Str.{encodes-chars}
 use Rattle.std.specs.Io.KnownBytes.{Appends}
@@ -13,7 +13,7 @@ of_faults file [] before after h some printed = cc
 of_faults file (d ∷ ds) before after (inl h) some printed = let no = h.1 in cc
 of_faults file (d ∷ ds) before after (inr h) some printed = inr (map complaint_in (d ∷ ds), h.0, h.1, printed)
 
--- the lines printed for a text are the lines for its file
+-- If a text has the bytes of a file, the lines printed for the text are the lines of the file.
 pub printed_of_file : (text file : List ℕ) (reported shown : List Diagnosis) (before mid after : Option (List ℕ)) → text ≡ file → mid ≡ before → shown ≡ reported
     → Appends mid after (complaint_lines text (map complaint_in shown)) → Appends before after (complaint_lines file (map complaint_in reported))
 printed_of_file text file reported shown before mid after same kept is printed =
@@ -26,18 +26,20 @@ pub reports_wrong : (text file : List ℕ) (reported shown : List Diagnosis) (be
 reports_wrong text file reported shown before mid after same kept is h some printed =
     of_faults file reported before after (subst (λ (t : List ℕ). Reports t (map complaint_in reported)) same h) some (printed_of_file text file reported shown before mid after same kept is printed)
 
--- the bytes of a text's characters are its bytes
+-- The bytes of a text's characters are the text's bytes.
 pub bytes_of : (content text : List ℕ) → content ≡ chars text → IsUtf8 text → encode_utf8_all content ≡ text
 bytes_of content text is u = ap encode_utf8_all is ∙ encodes-chars text u
 
--- the lines printed for a text that isn't a well-typed module
+-- If the text isn't a well-typed module, the lines of its reported diagnoses are the lines of its
+-- errors.
 pub not_well_typed : (text : List ℕ) (reported shown : List Diagnosis) (before after : Option (List ℕ)) → shown ≡ reported
     → ¬ IsWellTypedModule text → Reports text (map complaint_in reported) → Appends before after (complaint_lines text (map complaint_in shown)) → PrintsFaults text before after
 not_well_typed text reported shown before after is isnt (inl h) printed = absurd (isnt h.0)
 not_well_typed text reported shown before after is isnt (inr h) printed =
     inr (map complaint_in reported, h.0, h.1, subst (λ (ds : List Diagnosis). Appends before after (complaint_lines text (map complaint_in ds))) is printed)
 
--- the lines that `rename` prints in place of an edited text
+-- If the text isn't a well-typed module, the lines that `rename` prints are the lines of its
+-- errors.
 pub ill_typed : (content text : List ℕ) (reported shown : List Diagnosis) (before after : Option (List ℕ)) → content ≡ chars text → IsUtf8 text → shown ≡ reported
     → ¬ IsWellTypedModule (encode_utf8_all content) → Reports text (map complaint_in reported) → Appends before after (complaint_lines text (map complaint_in shown)) → PrintsFaults text before after
 ill_typed content text reported shown before after holds u is isnt h printed =

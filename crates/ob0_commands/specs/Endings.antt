@@ -1,26 +1,27 @@
--- States how a command on a file ends: its status, its output and its lines on standard error. If
--- it ends with 0 or 1, the file has a text or is too long, and neither the output nor the input has
--- failed in the call. If it ends with a fault's status, the fault has a reason
--- (`StopsPrintingFaults`, `StopsRunning`). Only for an input that isn't a list of numbers the
--- reverse is weaker: 0 and 1 require such a list (`IsInputOf`), and 5 may come with or without one.
--- `text_of` allocates nothing and can't return `Memory`, so 5 comes only for a file that isn't too
--- long (`AllocatesFor`). Each command prints after its last allocation. So a fault other than
--- `Write` leaves the output unchanged (`PrintsNothing`), even if it ends the command.
+-- Defines how a command on a file ends: its status, its output and its lines on standard error. If
+-- the status is 0 or 1, the file has a text or is too long. Then neither the output nor the input
+-- has failed in the call. If the status is a fault's, the fault has a reason
+-- (`StopsPrintingFaults`, `StopsRunning`). Only an input that isn't a list of numbers has a weaker
+-- reverse: 0 and 1 require such a list (`IsInputOf`), and 5 may come with or without one. `text_of`
+-- allocates nothing, so 5 comes only for a file that isn't too long (`AllocatesFor`). Each command
+-- prints after its last allocation. So a fault other than `Write` leaves the output unchanged
+-- (`PrintsNothing`).
 -- Rule: docs/PROTOCOL.md, The program 5 to 8.
 use Rattle.std.specs.Prelude.{◌≡◌, ◌≤◌, ℕ, List, Option, Some, Bool}
 use Rattle.ob0_commands.specs.Printed.{fault_line}
 use Rattle.ob0_commands.specs.Statuses.{AllocatesFor, IsOfOutput, PrintsNothing, status_of}
 use Rattle.ob0_commands.specs.declared.faults.FileFault.{FileFault}
 
--- no fault stops the command: with status 0 `Good` holds, with status 1 `Other`, with either `Both`
+-- Holds if no fault stops the command: the status is 0 and `Good` holds, or the status is 1 and
+-- `Other` holds. `Both` holds for either status.
 pub record EndsWell (Good Other Both : Type 0) (status : ℕ) : Type 0 where
   pub low : status ≤ 1
   pub good : status ≡ 0 → Good
   pub other : status ≡ 1 → Other
   pub both : Both
 
--- A fault stops the command, for a reason, and the status is the fault's. Nothing is printed unless
--- the output failed. The fault's line is printed on standard error.
+-- Holds if a fault stops the command for a reason, and the status is the fault's. The fault's line
+-- is printed on standard error. Nothing is printed on the output, unless the output failed.
 pub record EndsByFault {O : Type 0} (has_failed : O → Bool) (before after : O) (file : List ℕ)
     (Stops : FileFault → Type 0) (Said : Option (List ℕ) → Type 0) (status : ℕ) : Type 0 where
   pub why : FileFault

@@ -1,24 +1,25 @@
--- Defines the numbers that an input spells.
+-- Defines which numbers the text of an input spells.
 -- Rule: docs/PROTOCOL.md, The program 2 and 6.
 use Rattle.std.specs.Prelude.{◌≡◌, ◌≢◌, ◌≤◌, ◌⊎◌, ℕ, ℤ, List, [], ◌∷◌, ◌++◌, Bool, true, Option, IfSome, IsTrue, ⊤, length, slice_index}
 use Rattle.std.specs.Str.Parse.{IsNumeral, signed_digits_value, without_leading_sign}
 use Rattle.ob0_run_machine.specs.Evaluation.{fits}
 use Rattle.ob0_scan.specs.Classes.{is_space}
 
--- a word spells a number of 32 bits: one decimal digit or more, with or without a `-` before them
+-- Holds if the word spells this number of 32 bits: one or more decimal digits, optionally after a
+-- `-`.
 pub record WritesNumber (word : List ℕ) (n : ℤ) : Type 0 where
   pub no_plus : slice_index word 0 ≢ 43
   pub digits : IsNumeral 10 (without_leading_sign word)
   pub value : n ≡ signed_digits_value 10 word
   pub small : fits n ≡ true
 
--- the text after a word is empty or begins with white space
+-- Holds if the text after a word is empty or begins with white space.
 abbrev pub EndsWord : List ℕ → Type 0
 EndsWord [] = ⊤
 EndsWord (b ∷ bs) = IsTrue (is_space b)
 
--- A text spells numbers: each word is a number, and the words are separated by white space: space,
--- tab, CR or LF.
+-- Holds if the text spells these numbers. Each word is a number, and words are separated by white
+-- space: space, tab, CR or LF.
 pub data WritesNumbers : List ℕ → List ℤ → Type 0 where
   nothing : WritesNumbers [] []
   space : {b : ℕ} {text : List ℕ} {ns : List ℤ}
@@ -30,23 +31,24 @@ pub data WritesNumbers : List ℕ → List ℤ → Type 0 where
       → WritesNumber word n
       → EndsWord after → WritesNumbers after ns → WritesNumbers text (n ∷ ns)
 
--- the text is a list of numbers
+-- Holds if the text is a list of numbers.
 abbrev pub IsListOfNumbers : List ℕ → Type 0
 IsListOfNumbers text = (ns : List ℤ) × WritesNumbers text ns
 
--- the most bytes of an input
+-- The greatest length of an input, in bytes.
 abbrev pub max_input : ℕ
 max_input = 16777216
 
--- the text of an input spells these numbers, in at most 16,777,216 bytes
+-- Holds if the text of an input spells these numbers and has at most 16,777,216 bytes.
 pub record IsInputOf (ns : List ℤ) (text : List ℕ) : Type 0 where
   pub short : length text ≤ max_input
   pub writes : WritesNumbers text ns
 
--- the text isn't an input: it is too long, or isn't a list of numbers
+-- Holds if the text isn't a valid input: it is too long, or isn't a list of numbers.
 abbrev pub IsNoInput : List ℕ → Type 0
 IsNoInput text = ¬ ((ns : List ℤ) × IsInputOf ns text)
 
--- there are no numbers: the reader has failed, or the bytes that it had to give aren't an input
+-- Holds if there are no numbers to run on: the reader has failed, or its bytes, in case they are
+-- known, aren't a valid input.
 abbrev pub HasNoNumbers : Option (List ℕ) → Bool → Type 0
 HasNoNumbers given failed = (failed ≡ true) ⊎ IfSome given IsNoInput

@@ -1,5 +1,5 @@
--- Defines what a command line does on a file: its output, its exit status, and how much of the
--- input it reads.
+-- Defines the effect of a command line on a file: its output, its exit status, and how much of the
+-- input is read.
 -- Rule: docs/PROTOCOL.md, The program 1 to 8.
 use Rattle.std.specs.Prelude.{◌≡◌, ◌⊎◌, ℕ, List, [], Option, None, Bool, true, suc}
 use Rattle.ob0_text.specs.declared.position_types.Position.{Position}
@@ -14,8 +14,8 @@ use Rattle.ob0_commands.specs.Renamed.{Renames}
 use Rattle.ob0_commands.specs.Statuses.{HasNoText, IsOfInput, StopsPrintingFaults, StopsRunning}
 use Rattle.ob0_commands.specs.TextRuns.{PrintsRuns}
 
--- `check`: with status 0 the file has no diagnostics, and nothing is printed; with status 1 its
--- errors are printed and flushed; or a fault stops it
+-- Holds if `check` ends with this status. 0: the file has no diagnostics, and nothing is printed.
+-- 1: its errors are printed and flushed. With any other status a fault stopped the command.
 abbrev pub ChecksFile : {O : Type 0}
     → (contents : O → Option (List ℕ))
     → (is_flushed has_failed : O → Bool)
@@ -31,7 +31,8 @@ ChecksFile contents is_flushed has_failed before after Said file status =
     status
     ⊎ EndsByFault has_failed before after file (StopsPrintingFaults file) Said status
 
--- `run`: the run of the file's module on the numbers of an input is printed; or a fault stops it
+-- Holds if `run` ends with this status: it prints the run of the file's module on the numbers of
+-- the input, or the file's errors; or a fault stops it.
 abbrev pub RunsFile : {O I : Type 0}
     → (contents : O → Option (List ℕ))
     → (is_flushed has_failed : O → Bool)
@@ -54,7 +55,8 @@ RunsFile contents is_flushed has_failed before after Said file remaining input_f
     × IsOfInput (input_failed input) (input_failed left) fault)
     Said status
 
--- `rename`: the file's text is printed with another name at a position; or a fault stops it
+-- Holds if `rename` ends with this status: it prints the file's text with another name at a
+-- position, prints the file's errors, or refuses the name; or a fault stops it.
 abbrev pub RenamesInFile : {O : Type 0}
     → (contents : O → Option (List ℕ))
     → (is_flushed has_failed : O → Bool)
@@ -71,7 +73,7 @@ RenamesInFile contents is_flushed has_failed before after Said file position new
     status
     ⊎ EndsByFault has_failed before after file (StopsPrintingFaults file) Said status
 
--- Each command does what its definition says, with the values of the command line. Only `run` reads
+-- Holds if the command of this line ends with this status, as its definition says. Only `run` reads
 -- from the input: at most one byte over the limit, and nothing if the file isn't a well-typed
 -- module. `serve` isn't a command on a file.
 abbrev pub PerformsOnFile : {O I : Type 0}

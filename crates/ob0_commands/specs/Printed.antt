@@ -19,7 +19,7 @@ use Rattle.ob0_commands.specs.declared.faults.FileFault.TheVariants as fault
 
 -- ---- faults
 
--- the line on standard error that reports a fault
+-- Returns the line on standard error that reports a fault.
 abbrev pub fault_line : FileFault → List ℕ
 fault_line fault.File = codes "fault: File\n"
 fault_line fault.Utf8 = codes "fault: Utf8\n"
@@ -29,39 +29,40 @@ fault_line fault.Memory = codes "fault: Memory\n"
 
 -- ---- the errors of a file
 
--- L:C: Code: message
+-- Returns the line `L:C: Code: message` of a diagnostic at this position.
 abbrev pub line_at : Position → Complaint → List ℕ
 line_at p c =
     decimal p.line
     ++ (codes ":"
     ++ (decimal p.character ++ (codes ": " ++ (c.code ++ (codes ": " ++ (c.said ++ codes "\n"))))))
 
--- a line for each diagnostic, at these positions
+-- Returns a line for each diagnostic, at the position with the same index.
 abbrev pub lines_at : List Position → List Complaint → List ℕ
 lines_at [] cs = []
 lines_at (p ∷ ps) [] = []
 lines_at (p ∷ ps) (c ∷ cs) = line_at p c ++ lines_at ps cs
 
--- the line of a diagnostic at its start; lines and UTF-16 units count from 0
+-- Returns the line of a diagnostic, with the position of its start. Lines and UTF-16 units are
+-- counted from 0.
 abbrev pub complaint_line : List ℕ → Complaint → List ℕ
 complaint_line text c = line_at (position_of (width_of Utf16) (chars text) c.span.start) c
 
--- a line for each diagnostic
+-- Returns a line for each diagnostic of the text.
 abbrev pub complaint_lines : List ℕ → List Complaint → List ℕ
 complaint_lines text [] = []
 complaint_lines text (c ∷ cs) = complaint_line text c ++ complaint_lines text cs
 
--- the diagnostic of a text that is too long
+-- The diagnostic of a text that is too long.
 abbrev pub too_long : Complaint
 too_long = complaint_of (record { code = TooLong; span = record { start = 0; end = 0 } })
 
--- the line of that diagnostic
+-- The line that reports a text that is too long.
 abbrev pub too_long_line : List ℕ
 too_long_line = line_at (record { line = 0; character = 0 }) too_long
 
--- Known bytes grow by the lines of a file's errors. If the file has more bytes than a text may
--- have, that is one line. Otherwise its text isn't a well-typed module, and each diagnostic has a
--- line.
+-- Holds if known bytes grow by the lines of a file's errors. If the file has more bytes than a text
+-- may have, that is one line. Otherwise the text isn't a well-typed module, and each diagnostic has
+-- a line.
 abbrev pub PrintsFaults : List ℕ → Option (List ℕ) → Option (List ℕ) → Type 0
 PrintsFaults file before after =
     ((max_text < length file) × Appends before after too_long_line)
@@ -72,23 +73,23 @@ PrintsFaults file before after =
 
 -- ---- runs
 
--- the text of an item: a space and the digits of a number, or a line feed
+-- Returns the text of an output item: a space and the digits of a number, or a line feed.
 abbrev pub written_text : Written → List ℕ
 written_text (number_out n) = codes " " ++ signed_decimal n
 written_text line_out = codes "\n"
 
--- the output of a run as text
+-- Returns the text of a run's output.
 abbrev pub output_text : List Written → List ℕ
 output_text [] = []
 output_text (w ∷ ws) = written_text w ++ output_text ws
 
--- known bytes grow by a text without its end, which is left to write
+-- Holds if known bytes grow by a text without its end `left`, which is still to be written.
 pub record IsWrittenBut (before after : Option (List ℕ)) (text left : List ℕ) : Type 0 where
   pub written : List ℕ
   pub grew : Appends before after written
   pub split : text ≡ written ++ left
 
--- the line that reports an end other than Done
+-- Returns the line that reports the end of a run, or None for Done.
 abbrev pub end_line : End → Option (List ℕ)
 end_line end.Done = None
 end_line end.Overflow = Some (codes "fault: Overflow\n")

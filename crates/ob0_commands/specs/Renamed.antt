@@ -1,4 +1,4 @@
--- Defines what `rename` prints.
+-- Defines the output of `rename`.
 -- Rule: docs/PROTOCOL.md, The program 3.
 use Rattle.std.specs.Prelude.{◌≡◌, ◌⊎◌, ℕ, List, Option, Some, None, Result, Ok, Err, Vec, Bool, true}
 use Rattle.std.specs.declared.alloc.Global.{Global}
@@ -17,14 +17,14 @@ use Rattle.ob0_commands.specs.Outputs.{IsFlushedOrUnchanged}
 use Rattle.ob0_commands.specs.Printed.{PrintsFaults}
 use Rattle.ob0_commands.specs.Said.{refused_line}
 
--- known bytes grow by the edited text
+-- Holds if known bytes grow by the edited text.
 pub record PrintsPatched (unit : Unit) (content : List ℕ) (edits : List Edit)
     (before after : Option (List ℕ)) : Type 0 where
   pub text : List ℕ
   pub made : patched (width_of unit) content edits ≡ Some (chars text)
   pub printed : Appends before after text
 
--- there are edits, and the edited text is printed
+-- Holds if there are edits, not a refusal, and known bytes grow by the edited text.
 abbrev pub PrintsEdited : Unit
     → List ℕ
     → Result (Vec Edit Global) EditRefusal
@@ -35,22 +35,23 @@ PrintsEdited unit content (Ok edits) before after =
     PrintsPatched unit content edits.items before after
 PrintsEdited unit content (Err refusal) before after = ⊥
 
--- the name is refused, and the refusal is printed on standard error
+-- Holds if there is a refusal, not edits, and the refusal is printed on standard error.
 abbrev pub IsRefusal : Result (Vec Edit Global) EditRefusal
     → (Option (List ℕ) → Type 0)
     → Type 0
 IsRefusal (Ok edits) Said = ⊥
 IsRefusal (Err refusal) Said = Said (Some (refused_line refusal))
 
--- Edits put the new name into the file's text, and the edited text is printed. Positions count
--- UTF-16 units.
+-- Holds if some edits put the new name into the file's text, and the edited text is printed.
+-- Positions count UTF-16 units.
 pub record PrintsRenamed (file : List ℕ) (position : Position) (new : List ℕ)
     (before after : Option (List ℕ)) : Type 0 where
   pub edits : List Edit
   pub rename : RenamesIn Utf16 (chars file) position new edits
   pub prints : PrintsPatched Utf16 (chars file) edits before after
 
--- the name is refused, the refusal is printed on standard error, and the output is unchanged
+-- Holds if the name is refused, the refusal is printed on standard error, and the output is
+-- unchanged.
 pub record RefusesName (file : List ℕ) (position : Position) (new : List ℕ)
     (before after : Option (List ℕ)) (Said : Option (List ℕ) → Type 0) : Type 0 where
   pub refusal : EditRefusal
@@ -58,7 +59,7 @@ pub record RefusesName (file : List ℕ) (position : Position) (new : List ℕ)
   pub nothing : after ≡ before
   pub said : Said (Some (refused_line refusal))
 
--- the file's errors are printed, and nothing on standard error; or the name is refused
+-- Holds if the file's errors are printed and nothing on standard error, or if the name is refused.
 abbrev pub PrintsNoName : List ℕ
     → Position
     → List ℕ
@@ -70,8 +71,9 @@ PrintsNoName file position new before after Said =
     (PrintsFaults file before after × Said None)
     ⊎ RefusesName file position new before after Said
 
--- With status 0 the text with the new name is printed and flushed, and nothing on standard error.
--- With status 1 the file's errors are printed or the name is refused, and any output is flushed.
+-- Holds if `rename` ends with this status. 0: the text with the new name is printed and flushed,
+-- and nothing on standard error. 1: the file's errors are printed or the name is refused, and any
+-- output is flushed.
 abbrev pub Renames : {O : Type 0}
     → (contents : O → Option (List ℕ))
     → (is_flushed : O → Bool)

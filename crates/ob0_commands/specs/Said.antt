@@ -1,14 +1,14 @@
--- Defines the lines that the commands print on standard error, in bytes of UTF-8. `Says` covers two
--- cases: nothing is printed and the writer is unchanged, or a line is printed and flushed unless
--- the writer failed. `EndsByFault`, `PrintsEnded` and `RefusesName` take `Says` as a function of
--- the line. So the line belongs to the same fault, run or refusal as the status and the output.
+-- Defines the lines that the commands print on standard error, in bytes of UTF-8. `EndsByFault`,
+-- `PrintsEnded` and `RefusesName` take `Says` as a function of the line. So the line belongs to the
+-- same fault, run or refusal as the status and the output.
 -- Rule: docs/PROTOCOL.md, The program 2, 3, 5, 6 and 7.
 use Rattle.std.specs.Prelude.{◌≡◌, ◌++◌, ℕ, List, Option, Some, None, Bool, true, false, codes}
 use Rattle.std.specs.Io.KnownBytes.{Appends}
 use Rattle.ob0_text.specs.RefusalTexts.{refusal_text}
 use Rattle.ob0_text.specs.declared.refusals.EditRefusal.{EditRefusal}
 
--- None: nothing is printed; a line: it is printed and flushed, unless the writer has failed
+-- Holds if standard error gets this line, or nothing for None. A line is printed and flushed,
+-- unless the writer has failed. For None the writer is unchanged.
 abbrev pub Says : {E : Type 0}
     → (contents : E → Option (List ℕ))
     → (is_flushed has_failed : E → Bool)
@@ -20,6 +20,6 @@ Says contents is_flushed has_failed before after (Some line) =
     has_failed after ≡ false
     → Appends (contents before) (contents after) line × (is_flushed after ≡ true)
 
--- the line that reports a refusal
+-- Returns the line that reports a refusal.
 abbrev pub refused_line : EditRefusal → List ℕ
 refused_line refusal = codes "refused: " ++ (refusal_text refusal ++ codes "\n")

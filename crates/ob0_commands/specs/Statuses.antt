@@ -10,7 +10,7 @@ use Rattle.ob0_commands.specs.declared.faults.FileFault.{FileFault}
 use Rattle.ob0_commands.specs.declared.faults.FileFault.TheVariants as fault
 use Rattle.ob0_commands.specs.Numbers.{HasNoNumbers}
 
--- 5 if memory runs out, 4 for every other fault
+-- Returns the exit status of a fault: 5 if an allocation failed, otherwise 4.
 abbrev pub status_of : FileFault → ℕ
 status_of fault.File = 4
 status_of fault.Utf8 = 4
@@ -18,33 +18,34 @@ status_of fault.Input = 4
 status_of fault.Write = 4
 status_of fault.Memory = 5
 
--- printing fails because the output can't be written or an allocation failed
+-- Holds if the fault is one of printing: the output can't be written or an allocation failed.
 abbrev pub StopsPrinting : FileFault → Type 0
 StopsPrinting f = (f ≡ fault.Write) ⊎ (f ≡ fault.Memory)
 
--- the file has no text: its bytes aren't UTF-8, and it isn't too long
+-- Holds if the file has no text: its bytes aren't UTF-8, and it isn't too long.
 abbrev pub HasNoText : List ℕ → Type 0
 HasNoText file = (length file ≤ max_text) × ¬ (IsUtf8 file)
 
--- no diagnostics are printed because the file has no text, or printing fails
+-- Holds if the fault is the reason why no diagnostics are printed: the file has no text, or
+-- printing fails.
 abbrev pub StopsPrintingFaults : List ℕ → FileFault → Type 0
 StopsPrintingFaults file f =
     ((f ≡ fault.Utf8) × HasNoText file) ⊎ (StopsPrinting f × ¬ (HasNoText file))
 
--- memory runs out only for a file that isn't too long
+-- Holds if the file isn't too long, in case the fault is Memory.
 abbrev pub AllocatesFor : List ℕ → FileFault → Type 0
 AllocatesFor file f = f ≡ fault.Memory → length file ≤ max_text
 
--- nothing was printed, unless the fault is that printing failed
+-- Holds if nothing was printed, unless the fault is `Write`.
 abbrev pub PrintsNothing : {O : Type 0} → (before after : O) → FileFault → Type 0
 PrintsNothing before after f = f ≢ fault.Write → after ≡ before
 
--- reading fails by the fault of this name, for this reason;
--- or an allocation failed, and `otherwise` holds
+-- Holds if the fault is the one of this name and `reason` holds, or if an allocation failed and
+-- `otherwise` holds.
 abbrev pub StopsFor : (name : FileFault) → (reason otherwise : Type 0) → FileFault → Type 0
 StopsFor name reason otherwise f = ((f ≡ name) × reason) ⊎ ((f ≡ fault.Memory) × otherwise)
 
--- 0 for a run that reaches the end of the module's body, otherwise 1
+-- Returns the exit status for the end of a run: 0 for the end of the module's body, otherwise 1.
 abbrev pub status_at : End → ℕ
 status_at end.Done = 0
 status_at end.Overflow = 1
@@ -54,23 +55,24 @@ status_at end.InputEnd = 1
 status_at end.CallBound = 1
 status_at end.TurnBound = 1
 
--- the output has failed if the fault is `Write`; otherwise it hasn't failed in the call
+-- Holds if the output has failed exactly as the fault says. After `Write` it has failed, and after
+-- any other fault it has failed exactly if it had before.
 abbrev pub IsOfOutput : (before after : Bool) → FileFault → Type 0
 IsOfOutput before after f =
     (f ≡ fault.Write → after ≡ true) × (f ≢ fault.Write → after ≡ before)
 
 -- ---- runs
 
--- the file is a well-typed module, but there are no numbers to run it on
+-- Holds if the file is a well-typed module, but there are no numbers to run it on.
 abbrev pub HasNoInput : List ℕ → Option (List ℕ) → (input_failed : Bool) → Type 0
 HasNoInput file given input_failed = IsWellTypedModule file × HasNoNumbers given input_failed
 
--- the input has failed in the call only if the fault is `Input`
+-- Holds if the input failed in this call only in case the fault is `Input`.
 abbrev pub IsOfInput : (before after : Bool) → FileFault → Type 0
 IsOfInput before after f = f ≢ fault.Input → after ≡ before
 
--- a run isn't printed because there is no input for it, or because the file's errors can't be
--- printed
+-- Holds if the fault is the reason why no run is printed: there is no input for the module, the
+-- file has no text, or printing fails.
 abbrev pub StopsRunning : List ℕ → Option (List ℕ) → (input_failed : Bool) → FileFault → Type 0
 StopsRunning file given input_failed f =
     ((f ≡ fault.Input) × HasNoInput file given input_failed) ⊎ StopsPrintingFaults file f

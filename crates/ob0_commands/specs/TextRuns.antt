@@ -1,4 +1,4 @@
--- Defines the run of a text's module, and what `run` prints.
+-- Defines the run of a text's module, and the output of `run`.
 -- Rule: docs/PROTOCOL.md, The program 2.
 use Rattle.std.specs.Prelude.{◌≡◌, ◌≢◌, ◌⊎◌, ℕ, ℤ, List, Option, None, IfSome, Bool, true}
 use Rattle.std.specs.Io.KnownBytes.{Appends}
@@ -16,22 +16,23 @@ use Rattle.ob0_commands.specs.Endings.{EndsWell}
 use Rattle.ob0_commands.specs.Numbers.{IsInputOf}
 use Rattle.ob0_commands.specs.Printed.{PrintsFaults, end_line, output_text}
 
--- the text is a well-typed module, and this is its run
+-- Holds if the text is a well-typed module and this is its run. `c` bounds the open calls and `t`
+-- the iterations of a loop.
 pub record TextRunsAs (text : List ℕ) (input : List ℤ) (c t : ℕ) (r : Run) : Type 0 where
   pub tree : Tree Name module_text
   pub text_of : IsTextOf tree text
   pub well_typed : WellTyped tree
   pub is : r ≡ run tree input c t
 
--- the text is a well-typed module, and this program runs like it
+-- Holds if the text is a well-typed module, and this program runs like the module.
 pub record IsLoweredTo (text : List ℕ) (program : Program) : Type 0 where
   pub tree : Tree Name module_text
   pub text_of : IsTextOf tree text
   pub well_typed : WellTyped tree
   pub runs : lowered.RunsAs tree program
 
--- known bytes grow by the output of a run of the file's module
--- on the numbers that the known bytes of an input spell
+-- Holds if known bytes grow by the output of this run of the file's module. If the reader's bytes
+-- are known, the run's input are the numbers that they spell.
 pub record PrintsRun (file : List ℕ) (given : Option (List ℕ)) (c t : ℕ)
     (before after : Option (List ℕ)) (r : Run) : Type 0 where
   pub input : List ℤ
@@ -39,7 +40,7 @@ pub record PrintsRun (file : List ℕ) (given : Option (List ℕ)) (c t : ℕ)
   pub runs : TextRunsAs file input c t r
   pub printed : Appends before after (output_text r.output)
 
--- the output of a run that reaches the end of the module's body is printed
+-- Holds if the output of a run that reaches the end of the module's body is printed.
 abbrev pub PrintsDone : List ℕ
     → Option (List ℕ)
     → ℕ
@@ -50,7 +51,8 @@ abbrev pub PrintsDone : List ℕ
 PrintsDone file given c t before after =
     (r : Run) × PrintsRun file given c t before after r × (r.ending ≡ end_in end.Done)
 
--- the output of a run that ends otherwise is printed, and its end on standard error
+-- Holds if the output of a run with another end is printed, and the line of that end on standard
+-- error.
 pub record PrintsEnded (file : List ℕ) (given : Option (List ℕ)) (c t : ℕ)
     (before after : Option (List ℕ)) (Said : Option (List ℕ) → Type 0) : Type 0 where
   pub r : Run
@@ -60,8 +62,8 @@ pub record PrintsEnded (file : List ℕ) (given : Option (List ℕ)) (c t : ℕ)
   pub ends : r.ending ≡ end_in last
   pub said : Said (end_line last)
 
--- the file's errors are printed, and nothing on standard error;
--- or the output of a run that ends otherwise is printed, and its end on standard error
+-- Holds in two cases. The file's errors are printed, and nothing on standard error. Or the output
+-- of a run with an end other than Done is printed, and the line of that end on standard error.
 abbrev pub PrintsOther : List ℕ
     → Option (List ℕ)
     → ℕ
@@ -74,8 +76,9 @@ PrintsOther file given c t before after Said =
     (PrintsFaults file before after × Said None)
     ⊎ PrintsEnded file given c t before after Said
 
--- With status 0 the run to the end of the module's body is printed, and nothing on standard error.
--- With status 1 another run or the file's errors are printed. All output is flushed.
+-- Holds if `run` ends with this status. 0: the run to the end of the module's body is printed, and
+-- nothing on standard error. 1: another run or the file's errors are printed. All output is
+-- flushed.
 abbrev pub PrintsRuns : {O : Type 0}
     → (contents : O → Option (List ℕ))
     → (is_flushed : O → Bool)

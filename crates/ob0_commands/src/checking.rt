@@ -1,7 +1,7 @@
 //! Prints the errors of a file.
 //!
-//! A file of more bytes than a text may have is reported as too long before its UTF-8 is examined. All positions are
-//! found in one pass.
+//! A file of more bytes than a text may have is reported as too long, and its UTF-8 isn't examined. The positions of
+//! all diagnostics are found in one pass.
 
 ghost use Rattle.std.specs.Prelude.{◌≡◌, ◌≢◌, ◌<◌, ◌≤◌, [], true, IfOk, IfNone, IfSome, MatchOption, OnOk, IfErr, length, map, string_bytes};
 ghost use Rattle.std.specs.Io.KnownBytes.{Appends};
@@ -25,7 +25,8 @@ use std::mem::ManuallyDrop;
 /// Prints one line `L:C: Code: message` to `out` for each diagnostic of a file, and returns the program's exit status.
 /// `L:C` is the diagnostic's start, in lines and UTF-16 units counted from 0. `file` has all bytes of the file, or the
 /// first 1,048,577. The status is 0 for a module without diagnostics and 1 for diagnostics. If the bytes aren't UTF-8
-/// or a write fails, it is 4; if memory runs out, 5. Then `err` gets the line `fault: NAME`.
+/// or a write fails, the status is 4; if an allocation fails, it is 5. With 4 or 5 the line `fault: NAME` is printed to
+/// `err`.
 pub fn check_text<O: Output, E: Output>(alloc: Global, file: &[u8], out: &mut O, err: &mut E) -> u8
     ensures { ChecksFile O.contents O.is_flushed O.has_failed out.old out.new
         (Says E.contents E.is_flushed E.has_failed err.old err.new) file.now result }
@@ -37,8 +38,8 @@ pub fn check_text<O: Output, E: Output>(alloc: Global, file: &[u8], out: &mut O,
     }
 }
 
-/// Returns the text of a file that has no diagnostics. Otherwise prints the diagnostics and returns None. A file of
-/// more bytes than a text may have is too long, whatever its bytes.
+/// Returns the text of a file that has no diagnostics. Otherwise prints the diagnostics and returns None. If the file
+/// has more bytes than a text may have, that is its only diagnostic.
 pub fn check<'f, O: Output>(
     alloc: Global,
     file: &'f [u8],
@@ -75,8 +76,8 @@ fn diagnose(alloc: Global, text: &str) -> Result<Vec<Diagnosis>, AllocError>
     analysis.diagnoses(alloc)
 }
 
-/// Returns the analysis of a text, which isn't dropped: the process ends soon after and frees all memory at once, which
-/// is faster than freeing the analysis part by part.
+/// Returns the analysis of a text. The analysis is never dropped: the process ends soon and frees all memory at once,
+/// which is faster than freeing the analysis part by part.
 pub fn analyse(alloc: Global, text: &str) -> Result<ManuallyDrop<Analysis>, AllocError>
     ensures { IfOk result (λ analysis. manually_drop_value analysis ≡ text.now) }
 {
@@ -84,7 +85,8 @@ pub fn analyse(alloc: Global, text: &str) -> Result<ManuallyDrop<Analysis>, Allo
     Ok(ManuallyDrop::new(analysis))
 }
 
-/// Returns the text of a file. If the file is too long, prints that and returns None.
+/// Returns the text of a file. If the file is too long, prints that error and returns None. If the bytes aren't UTF-8,
+/// the fault is `Utf8`.
 pub fn text_of<'f, O: Output>(file: &'f [u8], out: &mut O) -> Result<Option<&'f str>, FileFault>
     ensures found { IfOk result (λ found. MatchOption found ((max_text < length file.entry.now)
         × Appends (O.contents out.old) (O.contents out.new) too_long_line)
@@ -109,7 +111,7 @@ pub fn text_of<'f, O: Output>(file: &'f [u8], out: &mut O) -> Result<Option<&'f 
     }
 }
 
-/// Prints the diagnostics of a text.
+/// Prints a line for each diagnostic of a text, and flushes.
 pub fn print_diagnoses<O: Output>(
     alloc: Global,
     text: &str,
@@ -139,7 +141,7 @@ fn lines_of(alloc: Global, text: &str, reported: &[Diagnosis]) -> Result<String,
     lines_at(alloc, reported, positions.as_slice())
 }
 
-/// Returns the byte offsets at which the diagnostics start.
+/// Returns the byte offset of each diagnostic's start, in order.
 fn starts_of(alloc: Global, reported: &[Diagnosis]) -> Result<Vec<usize>, AllocError>
     ensures { IfOk result (λ starts. starts.items ≡ map (λ d. d.span.start) reported.now) }
 {
@@ -149,7 +151,7 @@ fn starts_of(alloc: Global, reported: &[Diagnosis]) -> Result<Vec<usize>, AllocE
         .collect(alloc)
 }
 
-/// Returns a line for each diagnostic, with its position.
+/// Returns a line for each diagnostic, at the position with the same index.
 fn lines_at(
     alloc: Global,
     reported: &[Diagnosis],
@@ -166,7 +168,7 @@ fn lines_at(
     Ok(lines)
 }
 
-/// The line of a diagnostic at a position.
+/// Returns the line of a diagnostic at a position.
 fn line_at(alloc: Global, diagnosis: &Diagnosis, position: Position) -> Result<String, AllocError>
     ensures { IfOk result
         (λ line. string_bytes line ≡ line_at position (complaint_in diagnosis.now)) }

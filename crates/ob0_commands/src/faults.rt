@@ -1,4 +1,4 @@
-//! The faults of commands on files.
+//! Defines the faults of commands on files, with their exit statuses and lines.
 
 ghost use Rattle.std.specs.Prelude.{◌≡◌, ◌≤◌, Some};
 ghost use Rattle.ob0_commands.specs.Printed.{fault_line};
@@ -9,7 +9,7 @@ use crate::printing::{Output, print};
 use std::alloc::{AllocError, AllocFailed};
 use thiserror::Error;
 
-/// Why a command on a file failed. Each fault is reported by its name.
+/// The reason why a command on a file failed. The name of each fault is printed.
 #[derive(Clone, Copy, Debug, Drop, PartialEq, Eq, Error)]
 pub enum FileFault {
     #[error("the file can't be read")]
@@ -25,7 +25,7 @@ pub enum FileFault {
 }
 
 impl FileFault {
-    /// Returns the program's exit status.
+    /// Returns the program's exit status for this fault: 5 for `Memory`, otherwise 4.
     pub fn status(self) -> u8
         ensures status { result ≡ status_of self }
         ensures fails { 4 ≤ result }
@@ -70,8 +70,8 @@ impl<T: Drop> From<AllocFailed<T>> for FileFault {
     }
 }
 
-/// Prints a fault to `err`, and returns the program's exit status. If the line can't be written, the status is the
-/// same.
+/// Prints the line of a fault to `err`, and returns the program's exit status. If the line can't be written, the status
+/// is the same.
 pub fn print_fault<E: Output>(fault: FileFault, err: &mut E) -> u8
     ensures status { result ≡ status_of fault }
     ensures fails { 4 ≤ result }

@@ -1,11 +1,11 @@
 //! Reads the numbers of an input.
 //!
-//! The whole input is read before the run. Its words are cut out of its bytes, so only a word has to be UTF-8. A word
-//! that begins with `+` isn't a number, although Rust's `parse` accepts it.
+//! The whole input is read before the run. It is split into words as bytes, so only a word has to be UTF-8. A word that
+//! begins with `+` isn't a number, although Rust's `parse` accepts it.
 //!
 //! The loop's invariant (`Gathered`) has two directions. If the remaining text is a list of numbers, the whole text is
-//! that list after the numbers found so far. If the whole text is a list of numbers, the remaining text is also one,
-//! and its first word ends at the first white space (`first_word` of `proofs/Words`).
+//! that list after the numbers found so far. If the whole text is a list of numbers, the remaining text is also one.
+//! Its first word ends at the first white space (`first_word` of `proofs/Words`).
 
 ghost use Rattle.std.specs.Prelude.{◌≡◌, ◌≤◌, ℤ, IfOk, OnOk, IfErr, IfSome, MatchOption, length, suc};
 ghost use Rattle.std.specs.List.{position_or_len};
@@ -20,8 +20,8 @@ use crate::reading::{Input, read_input};
 use ob0_scan::is_space;
 use std::alloc::{AllocError, Global};
 
-/// Reads the numbers of the input: words between white space, each a whole number of 32 bits in decimal digits, with or
-/// without a `-` before them. If a read fails, or the input is too long or has another word, the fault is `Input`.
+/// Reads the numbers of the input. They are words between white space, each a whole number of 32 bits in decimal
+/// digits, optionally after a `-`. If a read fails, or the input is too long or has another word, the fault is `Input`.
 pub fn read_numbers<R: Input>(alloc: Global, input: &mut R) -> Result<Vec<i32>, FileFault>
     ensures numbers { IfOk result
         (λ numbers. IfSome (R.remaining input.old) (IsInputOf numbers.items)) }
@@ -38,7 +38,7 @@ pub fn read_numbers<R: Input>(alloc: Global, input: &mut R) -> Result<Vec<i32>, 
     }
 }
 
-/// Returns the numbers of a text in their order. Returns None if one of its words isn't a number.
+/// Returns the numbers of a text in order, or None if one of its words isn't a number.
 fn numbers_in(alloc: Global, text: &[u8]) -> Result<Option<Vec<i32>>, AllocError>
     ensures { IfOk result (λ found. MatchOption found (¬ IsListOfNumbers text.now)
         (λ numbers. WritesNumbers text.now numbers.items)) }
@@ -60,7 +60,7 @@ fn numbers_in(alloc: Global, text: &[u8]) -> Result<Option<Vec<i32>>, AllocError
     Ok(Some(numbers))
 }
 
-/// Returns the number of bytes before the first white space.
+/// Returns the number of bytes before the first white space, or of all bytes if there is none.
 fn word_len(bytes: &[u8]) -> usize
     ensures is { result ≡ position_or_len is_space bytes.now }
     ensures inside { result ≤ length bytes.now }

@@ -2,12 +2,12 @@
 //!
 //! The commands print to an `Output`: a writer that remembers whether it has been flushed since the last write, and
 //! whether it has failed. std's contracts of `Write` say neither, but the contract of `print` needs both.
-//! `TrackedWriter` makes an `Output` of any writer, also of standard error. `O.contents` is an option, as in `Write`:
-//! the clauses are empty for a writer whose bytes aren't known.
+//! `TrackedWriter` makes an `Output` of any writer, including standard error. `O.contents` is None for a writer whose
+//! bytes aren't known, as in `Write`; its clauses then say nothing about the bytes.
 //!
 //! After a command has printed, its output is flushed. If a name is refused, the output is unchanged, and whether it is
-//! flushed isn't known (`IsFlushedOrUnchanged`). `check` and `rename` print once, so their `Appends` is chained only
-//! with `print`'s flush. The contracts say nothing about the bytes after a failed write, because std's `write_all`
+//! flushed isn't known (`IsFlushedOrUnchanged`). `check` and `rename` print only once, so their contracts follow from
+//! one call of `print`. The contracts say nothing about the bytes after a failed write, because std's `write_all`
 //! doesn't.
 
 ghost use Rattle.std.specs.Prelude.{◌≡◌, ◌≢◌, ◌||◌, [], Bool, Some, true, false, is_err, OnOk, OnErr, IfErr};
@@ -20,18 +20,18 @@ ghost use Rattle.ob0_commands.specs.Said.{Says};
 use crate::faults::FileFault;
 use std::io::{self, Write};
 
-/// The most bytes that are read at a time, or put together before they are written.
+/// The most bytes that one read asks for, or that are collected before they are written.
 pub(crate) const PIECE_SIZE: usize = 8192;
 
-/// A writer that knows whether it has been flushed since the last write, and whether it has failed.
+/// A writer that remembers whether it has been flushed since the last write, and whether it has failed.
 pub trait Output: Write {
-    // True if a flush has succeeded since the last write of some bytes.
+    // Returns true if a flush has succeeded since the last write of some bytes.
     ghost is_flushed: { Self → Bool };
 
-    // True if a call of one of the two functions below has failed.
+    // Returns true if a call of `write_tracked` or `flush_tracked` has failed.
     ghost has_failed: { Self → Bool };
 
-    /// Writes all the bytes, and remembers if that fails.
+    /// Writes all the bytes. If that fails, the failure is remembered.
     fn write_tracked(&mut self, bytes: &[u8]) -> io::Result<()>
         ensures bytes { OnOk result
             (Appends (Self.contents self.old) (Self.contents self.new) bytes.now) }
@@ -39,7 +39,7 @@ pub trait Output: Write {
         ensures kept { bytes.now ≡ [] → is_flushed self.new ≡ is_flushed self.old }
         ensures failed { has_failed self.new ≡ (has_failed self.old || is_err result) };
 
-    /// Flushes, and remembers whether this succeeded.
+    /// Flushes. The success or the failure is remembered.
     fn flush_tracked(&mut self) -> io::Result<()>
         ensures bytes { Keeps (Self.contents self.old) (Self.contents self.new) }
         ensures flushed { OnOk result (is_flushed self.new ≡ true) }
@@ -47,7 +47,7 @@ pub trait Output: Write {
         ensures failed { has_failed self.new ≡ (has_failed self.old || is_err result) };
 }
 
-/// A writer with the two notes of an `Output`.
+/// A writer that remembers flushes and failures, and so is an `Output`.
 #[derive(Drop)]
 pub struct TrackedWriter<W> {
     device: W,
@@ -56,7 +56,7 @@ pub struct TrackedWriter<W> {
 }
 
 impl<W> TrackedWriter<W> {
-    /// Makes an output of a writer. It counts as not flushed and not failed.
+    /// Wraps a writer. It counts as not flushed and not failed.
     pub fn new(device: W) -> TrackedWriter<W>
         ensures device { output_device result ≡ device }
         ensures fresh { has_flushed result ≡ false }
@@ -124,7 +124,7 @@ impl<W: Write> Output for TrackedWriter<W> {
     }
 }
 
-/// Writes a whole text, without a flush.
+/// Writes a whole text, without a flush. If that fails, the fault is `Write`.
 pub(crate) fn write<W: Output>(out: &mut W, text: &str) -> Result<(), FileFault>
     ensures written { OnOk result (Appends (W.contents out.old) (W.contents out.new) text.now) }
     ensures unfailed { OnOk result (W.has_failed out.new ≡ W.has_failed out.old) }
@@ -137,7 +137,7 @@ pub(crate) fn write<W: Output>(out: &mut W, text: &str) -> Result<(), FileFault>
     }
 }
 
-/// Writes a whole text, and flushes.
+/// Writes a whole text, and flushes. If either fails, the fault is `Write`.
 pub fn print<W: Output>(out: &mut W, text: &str) -> Result<(), FileFault>
     ensures printed { OnOk result (Appends (W.contents out.old) (W.contents out.new) text.now) }
     ensures flushed { OnOk result (W.is_flushed out.new ≡ true) }

@@ -1,4 +1,4 @@
-//! Reads a file and the input.
+//! Reads the bytes of a file and of an input.
 //!
 //! The commands read from an `Input`: a reader that remembers whether it has failed. So the contracts can tie the
 //! faults `File` and `Input` to a failed read (`StopsFor`). `TrackedReader` makes an `Input` of any reader. If the
@@ -25,12 +25,12 @@ pub const MAX_FILE: usize = MAX_TEXT + 1;
 /// The most bytes that the input of a run may have.
 const MAX_INPUT: usize = 16_777_216;
 
-/// A reader that knows whether it has failed.
+/// A reader that remembers whether it has failed.
 pub trait Input: Read {
-    // True if a call of the function below has failed.
+    // Returns true if a call of `read_tracked` has failed.
     ghost has_failed: { Self → Bool };
 
-    /// Reads some bytes, and remembers if that fails.
+    /// Reads some bytes into the buffer. If that fails, the failure is remembered.
     fn read_tracked(&mut self, buf: &mut [u8]) -> io::Result<usize>
         ensures bound { ReadsAtMost result buf.new }
         ensures bytes { ReadConsumes
@@ -38,7 +38,7 @@ pub trait Input: Read {
         ensures failed { has_failed self.new ≡ (has_failed self.old || is_err result) };
 }
 
-/// A reader with the note of an `Input`.
+/// A reader that remembers failures, and so is an `Input`.
 #[derive(Drop)]
 pub struct TrackedReader<R> {
     device: R,
@@ -46,7 +46,7 @@ pub struct TrackedReader<R> {
 }
 
 impl<R> TrackedReader<R> {
-    /// Makes an input of a reader. It counts as not failed.
+    /// Wraps a reader. It counts as not failed.
     pub fn new(device: R) -> TrackedReader<R>
         ensures device { input_device result ≡ device }
         ensures works { input_failed result ≡ false }
@@ -85,7 +85,7 @@ impl<R: Read> Input for TrackedReader<R> {
     }
 }
 
-/// Reads a file's bytes, or the first 1,048,577 of them. If a read fails, the fault is `File`.
+/// Returns all bytes of a file, or the first 1,048,577 of them. If a read fails, the fault is `File`.
 pub fn read_file<R: Input>(alloc: Global, file: &mut R) -> Result<Vec<u8>, FileFault>
     ensures bound { IfOk result (λ bytes. length bytes.items ≤ suc max_text) }
     ensures taken { IfOk result
@@ -100,8 +100,8 @@ pub fn read_file<R: Input>(alloc: Global, file: &mut R) -> Result<Vec<u8>, FileF
     read_up_to(alloc, file, MAX_FILE, FileFault::File)
 }
 
-/// Reads the whole input. If it has more than 16,777,216 bytes, the fault is `Input`, after one byte over the limit is
-/// read. If a read fails, the fault is `Input` as well.
+/// Returns all bytes of the input. If a read fails, the fault is `Input`. If the input has more than 16,777,216 bytes,
+/// one byte over that limit is read, and the fault is `Input`.
 pub fn read_input<R: Input>(alloc: Global, input: &mut R) -> Result<Vec<u8>, FileFault>
     ensures bound { IfOk result (λ bytes. length bytes.items ≤ max_input) }
     ensures taken { IfOk result
@@ -120,7 +120,7 @@ pub fn read_input<R: Input>(alloc: Global, input: &mut R) -> Result<Vec<u8>, Fil
     Ok(bytes)
 }
 
-/// Reads to the end, or the first `most` bytes. If a read fails, returns `fault`.
+/// Returns all bytes that are left to read, or the first `most` of them. If a read fails, returns `fault`.
 fn read_up_to<R: Input>(
     alloc: Global,
     reader: &mut R,

@@ -1,9 +1,9 @@
-//! Renames in a file's text.
+//! Renames a declaration in a file's text, and prints the result.
 //!
 //! `rename_text` analyses the text once. The renaming uses that analysis (`rename_in` of `ob0_edits`). If the text
-//! isn't a well-typed module, the diagnostics of the same analysis are printed, so `check` isn't called; both use
-//! `text_of` and `print_diagnoses`. `rename_in_text` is the part after the test for UTF-8. It is a separate function
-//! because the proof needs a `&str`: `rename_in` is about the characters of a text, `diagnoses` about its bytes.
+//! isn't a well-typed module, the diagnostics of the same analysis are printed, with `text_of` and `print_diagnoses` as
+//! in `check`. `rename_in_text` is the part after the test for UTF-8. It is a separate function because the proof needs
+//! a `&str`: `rename_in` is about the characters of a text, `diagnoses` about its bytes.
 
 ghost use Rattle.std.specs.Prelude.{◌≡◌, true, IfOk, IfErr, OnErr};
 ghost use Rattle.ob0_commands.specs.Endings.{EndsWell};
@@ -19,10 +19,10 @@ use ob0_edits::rename_in;
 use ob0_text::{Edit, EditRefusal, Lines, Position, TextStore, patch};
 use std::alloc::Global;
 
-/// Prints a file's text to `out`, with `new` in place of the name at a position, and returns the program's exit status.
-/// The position counts lines and UTF-16 units from 0. If the name is refused, `err` gets `refused: TEXT`. If the file
-/// isn't a well-typed module, its diagnostics are printed as by `check_text`. The status is 0 for a text and 1 for a
-/// refusal or diagnostics; 4 and 5 are as for `check_text`.
+/// Prints a file's text to `out`, with the declaration at a position renamed to `new`, and returns the program's exit
+/// status. The position counts lines and UTF-16 units from 0. If the name is refused, `refused: TEXT` is printed to
+/// `err`. If the file isn't a well-typed module, its diagnostics are printed as by `check_text`. The status is 0 for a
+/// text and 1 for a refusal or diagnostics; 4 and 5 are as for `check_text`.
 pub fn rename_text<O: Output, E: Output>(
     alloc: Global,
     file: &[u8],
@@ -95,7 +95,7 @@ fn rename_in_text<O: Output, E: Output>(
 }
 
 /// Prints the edited text to `out`, or the refusal to `err` as `refused: TEXT`. Returns the program's exit status: 0
-/// for edits, 1 for a refusal.
+/// for edits, 1 for a refusal. If an allocation failed, the fault is `Memory`.
 pub fn print_edited<T: TextStore, O: Output, E: Output>(
     alloc: Global,
     store: &T,

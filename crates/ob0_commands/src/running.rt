@@ -1,14 +1,14 @@
 //! Runs a file's module on an input, and prints the output.
 //!
-//! `run_text` analyses and lowers the text once. `LoweringQuestion`, a question for `ask` of `ob0_analysis`, returns
-//! the program; if there is none, the diagnostics are printed. Then the input is read, and the program is executed. The
-//! module is dropped before that: the fact `IsLoweredTo` says that the program runs like a module of this text, and
+//! `run_text` analyses and lowers the text once. `LoweringQuestion` asks the analysis for the program; if the text
+//! isn't a well-typed module, the diagnostics are printed. Then the input is read, and the program is executed. The
+//! module is dropped before the execution. `IsLoweredTo` states that the program runs like a module of this text, and
 //! `execute` makes the defined run (`RunsAs`).
 //!
 //! The output is written in pieces of at most `PIECE_SIZE` bytes (`print_items`), so its whole text is never stored.
 //! `IsWrittenBut` separates the written text from the waiting piece. A piece is an `ArrayString`: it is on the stack
 //! and doesn't grow. It is written if the next item might not fit. So nothing is allocated after the first byte is
-//! printed. (A contract allows a `String` to allocate between pieces.)
+//! printed. (A `String` could allocate between pieces, because its contract allows that.)
 
 ghost use Rattle.std.specs.Prelude.{◌≡◌, ◌+◌, ◌≤◌, ◌++◌, true, IfOk, IfErr, IfNone, MatchOption, OnOk, OnErr, option_map, suc};
 ghost use Rattle.std.specs.Io.KnownBytes.{Appends};
@@ -37,7 +37,7 @@ use ob0_analysis::{Analysis, Question, WellTyped, ask};
 use ob0_run::{End, Item, Outcome, Program, execute, lower};
 use std::alloc::{AllocError, Global};
 
-/// Asks for the program that a text's module is lowered to.
+/// The question for the program that a module is lowered to.
 #[derive(Drop)]
 struct LoweringQuestion {}
 
@@ -114,8 +114,8 @@ fn run_file<R: Input, O: Output, E: Output>(
     print_outcome(outcome.output.as_slice(), outcome.end, out, err)
 }
 
-/// Returns the program that a text is lowered to. If there is none, prints the text's diagnostics and returns None. The
-/// analysis is dropped here because a run may take long and needs only the program.
+/// Returns the program that a text is lowered to. If the text isn't a well-typed module, prints its diagnostics and
+/// returns None. The analysis is dropped here because a run may take long and needs only the program.
 fn lower_text<O: Output>(
     alloc: Global,
     text: &str,
@@ -142,7 +142,7 @@ fn lower_text<O: Output>(
     }
 }
 
-/// Runs the program that a text is lowered to. Only the contract uses the text.
+/// Runs the program that a text is lowered to. The text is an argument only for the contract.
 fn execute_module(
     alloc: Global,
     text: &str,
@@ -172,8 +172,8 @@ fn line_of(end: End) -> Option<&'static str>
     }
 }
 
-/// Prints a run's output to `out`, and an end other than `Done` to `err`. Returns the program's exit status: 0 for
-/// `Done`, otherwise 1.
+/// Prints a run's output to `out`, and the line of an end other than `Done` to `err`. Returns the program's exit
+/// status: 0 for `Done`, otherwise 1.
 pub fn print_outcome<O: Output, E: Output>(
     output: &[Item],
     end: End,
@@ -203,11 +203,11 @@ pub fn print_outcome<O: Output, E: Output>(
     }
 }
 
-/// The most bytes of an item's text: a space, a sign and ten digits.
+/// The greatest length of an item's text, in bytes: a space, a sign and ten digits.
 const LONGEST_ITEM: usize = 12;
 
-/// Prints items, and flushes. Their text is put together in pieces on the stack, so that the whole text is never stored
-/// and nothing is allocated after the first byte is printed.
+/// Prints items, and flushes. Their text is collected in pieces on the stack, so the whole text is never stored and
+/// nothing is allocated.
 fn print_items<O: Output>(output: &[Item], out: &mut O) -> Result<(), FileFault>
     ensures printed { OnOk result
         (Appends (O.contents out.old) (O.contents out.new) (output_text (items_out output.now))) }
@@ -224,7 +224,8 @@ fn print_items<O: Output>(output: &[Item], out: &mut O) -> Result<(), FileFault>
     print(out, text.as_str())
 }
 
-/// Appends an item to a text. If the item might not fit, the text is first written and cleared.
+/// Appends an item to the text that waits to be written. If the item might not fit, the waiting text is first written
+/// and cleared.
 fn append_item<O: Output>(
     text: &mut ArrayString<PIECE_SIZE>,
     digits: &mut Buffer,
@@ -245,7 +246,7 @@ fn append_item<O: Output>(
     Ok(())
 }
 
-/// Appends a space and the digits of a number, or a line feed.
+/// Appends an item to a text: a space and the digits of a number, or a line feed.
 fn push_item(text: &mut ArrayString<PIECE_SIZE>, digits: &mut Buffer, item: Item)
     requires { array_string_len text.old + 12 ≤ 8192 }
     ensures { text.new.bytes ≡ text.old.bytes ++ written_text (item_of item) }

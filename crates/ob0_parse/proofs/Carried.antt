@@ -1,4 +1,4 @@
--- Kept trees in another text, one after another.
+-- Proves which kept trees are at their places in another text.
 use Rattle.std.proofs.Common.{◌≡◌, ℕ, zero, suc, ◌+◌, ◌-◌, ◌<◌, ◌≤◌, Option, Some, None, IfSome, List, [], ◌∷◌, ◌++◌, take, drop, length, refl, sym, ◌∙◌, ap, arith, slice_range, length-drop}
 use Rattle.std.proofs.lemmas.List.{drop-drop, length-map}
 use Rattle.ob0_scan.specs.declared.lexeme.Token.{Token}
@@ -41,7 +41,7 @@ within_front [] (suc at) (suc count) (suc front) h = refl
 within_front (x ∷ xs) (suc at) count zero h = absurd (omega (arith, h))
 within_front (x ∷ xs) (suc at) count (suc front) h = within_front xs at count front (omega (arith, h))
 
--- a tree is at any tokens of the same kinds
+-- If other tokens have the same kinds as a tree's tokens, the tree is at those tokens as well.
 there_again : {s : Sort} (old new : List Token) (from at next here end : ℕ) (t : Tree ℕ s) → IsThere old from at next t → slice_range (kinds old) at next ≡ slice_range (kinds new) here end → here < end → end ≤ length new → IsThere new from here end t
 there_again old new from at next here end t p same forward within = record {
   spelled = p.spelled ∙ ap (λ ks. lexemes_by from ks) same;
@@ -96,7 +96,7 @@ there_still old new from at next t same p =
     let count : length new ≡ length old = sym (length-map new (λ (t : Token). valueless t.kind)) ∙ ap (λ ks. length ks) same ∙ length-map old (λ (t : Token). valueless t.kind) in
     there_again old new from at next at next t p (ap (λ ks. slice_range ks at next) (sym same)) p.forward (omega (arith, count, p.within))
 
--- kept trees stay at their places if all tokens have the same kinds as before
+-- If all tokens have the same kinds as before, the kept trees are at their places.
 pub kept_stay : (old new : List Token) (k : Kept) → kinds new ≡ kinds old → AreKept old k → AreKept new k
 kept_stay old new k same kept = record {
   made = each_as (IsMade old) (IsMade new) k.made.items (λ p m. there_still old new (first_of (procedure_of p)) (first_of (procedure_of p)) (end_of (procedure_of p)) (procedure_of p) same m) kept.made;

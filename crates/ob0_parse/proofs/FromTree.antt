@@ -1,4 +1,4 @@
--- The procedures and the body of a tree are at their tokens.
+-- Proves that the procedures and the body of a tree are at their tokens.
 use Rattle.std.proofs.Common.{◌≡◌, ℕ, zero, suc, ◌+◌, ◌-◌, ◌<◌, ◌≤◌, Option, Some, None, IfSome, option_map, slice_get, List, [], ◌∷◌, ◌++◌, drop, length, refl, sym, ◌∙◌, ap, subst, arith, append_assoc, length-append}
 use Rattle.std.proofs.lemmas.List.{drop_at}
 use Rattle.std.specs.declared.vec.Vec.{Vec}
@@ -29,7 +29,7 @@ use Rattle.ob0_parse.proofs.Keeping.{count_lexemes, kept_there, placed, made_the
 some_tokens : (t : Tree ℕ (item procedure)) → 0 < length (spell t)
 some_tokens (declares_procedure x fs b y) = omega arith
 
--- a tree between other tokens is at its place
+-- If a tree's tokens are between other tokens, the tree is at its place.
 between : {s : Sort} (ts : List Token) (begun left : List (Terminal ℕ)) (t : Tree ℕ s) → lexemes ts ≡ begun ++ (spell t ++ left) → nesting t ≤ max_nesting → 0 < length (spell t) → 0 < length left → IsInPlace ts (length begun) (length begun + length (spell t)) t
 between ts begun left t is shallow some more =
     let at : ℕ = length begun in
@@ -65,7 +65,7 @@ items_made ts begun left (p ∷ ps) is shallow more = (
   items_made ts (begun ++ spell (procedure_of p)) left ps (following_are ts begun left p ps is) (omega (arith, shallow)) more,
 )
 
--- the index after the last token of the procedure at this place
+-- Returns the index after the last token of the i-th procedure.
 abbrev end_at : List Procedure → ℕ → Option ℕ
 end_at ps i = option_map (λ (p : Procedure). end_of (procedure_of p)) (slice_get ps i)
 
@@ -79,7 +79,7 @@ has_last : (ps : List Procedure) (n : ℕ) → end_at ps (length ps - 1) ≡ Som
 has_last [] n h = absurd (nothing_some h)
 has_last (p ∷ ps) n h = omega arith
 
--- the last procedure ends at the first token after the procedures
+-- The last procedure ends right before the first token after the procedures.
 last_end : (ts : List Token) (begun left : List (Terminal ℕ)) (ps : List Procedure) (i n : ℕ) → lexemes ts ≡ begun ++ (spell (items_of procedure_of ps) ++ left) → nesting (items_of procedure_of ps) ≤ max_nesting → 0 < length left
     → i + 1 ≡ length ps → end_at ps i ≡ Some n → n ≡ length begun + length (spell (items_of procedure_of ps))
 last_end ts begun left [] i n is shallow more count h = absurd (omega (arith, count))
@@ -97,11 +97,13 @@ last_end ts begun left (p ∷ q ∷ ps) (suc i) n is shallow more count h =
 
 -- ---- the tokens of a module
 
--- END, the closing name, the full stop and the end of the text
+-- Returns the last tokens of a module: END, the closing name, the full stop and the end of the
+-- text.
 abbrev ended : ℕ → List (Terminal ℕ)
 ended closing = Mark (kind.Reserved reserved.End) ∷ Name closing ∷ Mark (kind.Symbol symbol.Dot) ∷ EndOfText ∷ []
 
--- the tokens of a module with these procedures and this body
+-- Holds if the tokens are a module's and end with these procedures, this body and this closing
+-- name.
 record HasParts (ts : List Token) (ps : List Procedure) (ss : Option (Vec Statement Global)) (closing : ℕ) : Type 0 where
   begun : List (Terminal ℕ)
   whole : lexemes ts ≡ begun ++ (spell (items_of procedure_of ps) ++ (spell (body_of ss) ++ ended closing))

@@ -1,4 +1,4 @@
--- The places of the tokens of kept trees.
+-- Proves facts about the places of the tokens of kept trees.
 use Rattle.std.proofs.Common.{◌≡◌, ℕ, zero, suc, ◌+◌, ◌-◌, ◌<◌, ◌≤◌, List, [], ◌∷◌, ◌++◌, take, drop, length, refl, sym, ◌∙◌, ap, subst, arith, append_assoc, length-drop, slice_range}
 use Rattle.std.proofs.lemmas.List.{append_cancel_right, length-map, length-take-le}
 use Rattle.ob0_scan.specs.declared.lexeme.TokenKind.{TokenKind}
@@ -20,7 +20,7 @@ pub count_lexemes : (i : ℕ) (ts : List Token) → length (lexemes_from i ts) �
 count_lexemes i [] = refl
 count_lexemes i (t ∷ ts) = let h = count_lexemes (i + 1) ts in omega (arith, h)
 
--- a token by its index is the same whatever its value
+-- An integer's lexeme at an index has the index in place of the value, so the value doesn't matter.
 pub by_kind : (i : ℕ) (k : TokenKind) → lexeme_of i (valueless k) ≡ lexeme_of i k
 by_kind i kind.Identifier = refl
 by_kind i (kind.Reserved word) = refl
@@ -90,8 +90,8 @@ named_last i n ks [] z e = last_named i n ks z e
 named_last i n [] (x ∷ xs) z e = absurd (no_more e)
 named_last i n (k ∷ ks) (x ∷ xs) z e = let h = named_last (i + 1) n ks xs z (tail_of e) in omega (arith, h)
 
--- a procedure that is spelled starting at an index has its first token there, and ends after that
--- many tokens
+-- A procedure that is spelled starting at index `at` has its first token there, and ends after as
+-- many tokens as it spells.
 pub in_place : (t : Tree ℕ (item procedure)) (at : ℕ) (ks : List TokenKind) → spell t ≡ lexemes_by at ks → (first_of t ≡ at) × (end_of t ≡ at + length ks)
 in_place (declares_procedure x fs b y) at ks e =
     let second = named_second at x ks _ _ (sym e) in
@@ -105,7 +105,7 @@ in_place (declares_procedure x fs b y) at ks e =
 
 -- ---- trees at their tokens
 
--- a tree whose tokens are here is at its place, with its leaves in place
+-- If a tree's tokens are at `at..next`, the tree is in place.
 pub kept_there : {s : Sort} (ts : List Token) (at next : ℕ) (t : Tree ℕ s) → drop at (lexemes ts) ≡ spell t ++ drop next (lexemes ts) → nesting t ≤ max_nesting → at < next → next ≤ length ts → IsInPlace ts at next t
 kept_there ts at next t spelled shallow forward within =
     let ks : List TokenKind = slice_range (kinds ts) at next in
@@ -116,19 +116,19 @@ kept_there ts at next t spelled shallow forward within =
       within = within;
     }
 
--- the leaves of a procedure give its place
+-- The leaves of a procedure that is in place give its place.
 pub placed : (ts : List Token) (at next : ℕ) (t : Tree ℕ (item procedure)) → IsInPlace ts at next t → (first_of t ≡ at) × (end_of t ≡ next)
 placed ts at next t p =
     let places = in_place t at (slice_range (kinds ts) at next) p.spelled in
     (places.0, places.1 ∙ omega (arith, p.forward, count_slice ts at next (omega (arith, p.forward)) p.within))
 
--- .. so it counts as made
+-- A procedure that is in place is at the place that its leaves give.
 pub made_there : (ts : List Token) (at next : ℕ) (t : Tree ℕ (item procedure)) → IsInPlace ts at next t → IsInPlace ts (first_of t) (end_of t) t
 made_there ts at next t p =
     let places = placed ts at next t p in
     subst (λ n. IsInPlace ts (first_of t) n t) (sym places.1) (subst (λ i. IsInPlace ts i next t) (sym places.0) p)
 
--- the leaf of a name is its index
+-- If a name stands among the tokens that are named by their indexes, the name is the index.
 pub named_at : (i n : ℕ) (ts : List Token) (xs z : List (Terminal ℕ)) → lexemes_from i ts ≡ xs ++ (Name n ∷ z) → n ≡ i + length xs
 named_at i n [] [] z e = absurd (end_not_name (head_of e))
 named_at i n [] (x ∷ []) z e = absurd (no_more (tail_of e))

@@ -1,4 +1,4 @@
--- The items of a list, whose leaves are moved one item after another.
+-- Proves facts about lists whose items are moved one after another.
 use Rattle.std.proofs.Common.{◌≡◌, ◌≢◌, ℕ, zero, suc, ◌≤◌, ◌<◌, ◌+◌, List, [], ◌∷◌, length, set, get_or, length-set, get_or-set_other, refl, sym, ◌∙◌, ap, subst, arith, add-one}
 use Rattle.ob0_tree.specs.declared.tree.Expression.{Expression}
 use Rattle.ob0_tree.specs.declared.tree.Statement.{Statement}
@@ -10,14 +10,15 @@ use Rattle.ob0_parse.specs.Moving.{moved}
 use Rattle.ob0_parse.specs.declared.moving.Move.{Move}
 use Rattle.ob0_parse_descent.proofs.Unique.{head_of, tail_of}
 
--- the first items, as many as given, are moved, and the others are unchanged
+-- Holds if the first n items of the list are moved, and the others are unchanged.
 abbrev pub AreMoved : {A : Type 0} {s : Sort} → (A → Tree ℕ s) → Move → List A → ℕ → List A → Type 0
 AreMoved f by xs zero ys = ys ≡ xs
 AreMoved f by [] (suc n) ys = ys ≡ []
 AreMoved f by (x ∷ xs) (suc n) [] = ⊥
 AreMoved f by (x ∷ xs) (suc n) (y ∷ ys) = (f y ≡ moved by (f x)) × AreMoved f by xs n ys
 
--- the same in the form of a loop's invariant
+-- Holds if the first `done` items are moved and the others are unchanged, as the invariant of a
+-- loop.
 pub record Moving {A : Type 0} {s : Sort} (f : A → Tree ℕ s) (by : Move) (xs : List A) (done : ℕ) (ys : List A) : Type 0 where
   pub so_far : AreMoved f by xs done ys
 
@@ -40,20 +41,21 @@ following : {A : Type 0} {s : Sort} {f : A → Tree ℕ s} {by : Move} {xs : Lis
 following {f = f} {by = by} {xs = xs} {n = n} {ys = ys} {x = x} {y = y} w inside is e =
     record { so_far = subst (λ k. AreMoved f by xs k (set ys n y)) (sym (add-one n)) (next_moved f by xs n ys x y w.so_far inside is e) }
 
--- a step of a loop
+-- If the n-th item is moved, the loop's invariant holds for one item more.
 pub next : {A : Type 0} {s : Sort} {f : A → Tree ℕ s} {by : Move} {xs : List A} {n : ℕ} {ys : List A} {x y : A}
     → (length ys ≡ length xs) × Moving f by xs n ys → n < length ys → x ≡ get_or ys n x → f y ≡ moved by (f x)
     → (length (set ys n y) ≡ length xs) × Moving f by xs (n + 1) (set ys n y)
 next {n = n} {ys = ys} {y = y} w inside is e = (length-set ys n y ∙ w.0, following w.1 inside is e)
 
--- a step of a loop that modifies the items in place
+-- If the n-th item is moved in place, the loop's invariant holds for one item more, and later items
+-- are unchanged.
 pub next_down : {A : Type 0} {s : Sort} {f : A → Tree ℕ s} {by : Move} {xs : List A} {n : ℕ} {ys : List A} {x y : A}
     → ((length ys ≡ length xs) × ((k : ℕ) (d : A) → n ≤ k → get_or ys k d ≡ get_or xs k d)) × Moving f by xs n ys → n < length ys → x ≡ get_or ys n x → f y ≡ moved by (f x)
     → ((length (set ys n y) ≡ length xs) × ((k : ℕ) (d : A) → n + 1 ≤ k → get_or (set ys n y) k d ≡ get_or xs k d)) × Moving f by xs (n + 1) (set ys n y)
 next_down {n = n} {ys = ys} {y = y} w inside is e =
     ((length-set ys n y ∙ w.0.0, λ k d h. let other : k ≢ n = omega (arith, h) in get_or-set_other ys n k y d other ∙ w.0.1 k d (omega (arith, h))), following w.1 inside is e)
 
--- each of the items is moved
+-- Holds if each item of the list is moved.
 abbrev pub AllMoved : {A : Type 0} {s : Sort} → (A → Tree ℕ s) → Move → List A → List A → Type 0
 AllMoved f by [] ys = ys ≡ []
 AllMoved f by (x ∷ xs) [] = ⊥
@@ -71,7 +73,7 @@ all_moved f by (x ∷ xs) (suc n) (y ∷ ys) h all = (h.0, all_moved f by xs n y
 pub ends : {A : Type 0} {s : Sort} {f : A → Tree ℕ s} {by : Move} {xs : List A} {n : ℕ} {ys : List A} → Moving f by xs n ys → length ys ≤ n → AllMoved f by xs ys
 ends {f = f} {by = by} {xs = xs} {n = n} {ys = ys} w all = all_moved f by xs n ys w.so_far all
 
--- several items; each is a part of its tree
+-- If each item of a list is moved, the tree of the list is moved.
 pub items_moved : {A : Type 0} {s : Sort} {i : Item} (f : A → Tree ℕ s) (within : Tree ℕ s → Tree ℕ (item i)) (by : Move)
     → ((t : Tree ℕ s) → within (moved by t) ≡ moved by (within t))
     → (xs ys : List A) → AllMoved f by xs ys → items_of (λ x. within (f x)) ys ≡ moved by (items_of (λ x. within (f x)) xs)

@@ -1,4 +1,4 @@
--- The trees of values whose parts are moved one after another.
+-- Proves facts about the trees of values whose parts are moved one after another.
 use Rattle.std.proofs.Common.{◌≡◌, ℕ, Box, Option, sym, ◌∙◌, ap}
 use Rattle.std.specs.declared.vec.Vec.{Vec}
 use Rattle.std.specs.declared.alloc.Global.{Global}
@@ -65,7 +65,8 @@ record_type_moved by r q h = record_made q ∙ h ∙ ap (moved by) (sym (record_
 pub block_between : (x : Block) (r : _) → x ≡ roll-Block r → out-Block x ≡ r
 block_between x r is = ap out-Block is ∙ out-roll-Block r
 
--- a block whose parts are moved one after another: constants first, then each of the others
+-- If all parts of a block are moved, one after another from the constants to the body, the block is
+-- moved.
 pub block_moved : (by : Move) (s w x y z : Block) (cs : Option (Vec Constant Global)) (ts : Option (Vec TypeDeclaration Global)) (vs : Option (Vec Variables Global)) (ps : Vec Procedure Global) (b : Option (Vec Statement Global))
     → w ≡ roll-Block record { constants = cs; types = (out-Block s).types; variables = (out-Block s).variables; procedures = (out-Block s).procedures; body = (out-Block s).body }
     → x ≡ roll-Block record { constants = (out-Block w).constants; types = ts; variables = (out-Block w).variables; procedures = (out-Block w).procedures; body = (out-Block w).body }
@@ -118,8 +119,8 @@ same_if : {c d : Tree ℕ expression} {t u : Tree ℕ sequence} {e f : Tree ℕ 
     → c ≡ d → t ≡ u → e ≡ f → o ≡ p → branches c t e o ≡ branches d u f p
 same_if g h i j = cc (g, h, i, j)
 
--- an IF statement whose parts are moved one after another: the condition first, then each of the
--- others
+-- If all parts of an IF statement are moved, one after another from the condition to the ELSE part,
+-- the statement is moved.
 pub if_moved : (by : Move) (s x y z : If) (c : Expression) (t : Vec Statement Global) (e : Vec Elsif Global) (o : Option (Vec Statement Global))
     → x ≡ roll-If record { condition = c; then = (out-If s).then; elsifs = (out-If s).elsifs; otherwise = (out-If s).otherwise }
     → y ≡ roll-If record { condition = (out-If x).condition; then = t; elsifs = (out-If x).elsifs; otherwise = (out-If x).otherwise }

@@ -1,4 +1,4 @@
--- A tree whose leaves are moved spells the tokens at its new place.
+-- Proves that a tree whose leaves are moved spells the tokens at its new place.
 use Rattle.std.proofs.Common.{◌≡◌, ℕ, ◌+◌, ◌-◌, ◌^◌, ◌≤◌, List, [], ◌∷◌, map, length, refl, ◌∙◌, ap, arith, slice_range}
 use Rattle.std.proofs.Math.Nat.{min-eq_left}
 use Rattle.ob0_scan.specs.declared.lexeme.TokenKind.{TokenKind}
@@ -14,7 +14,7 @@ use Rattle.ob0_parse.specs.Moving.{moved, moved_to}
 use Rattle.ob0_parse.specs.declared.moving.Move.{Move}
 use Rattle.ob0_parse.proofs.Keeping.{count_slice}
 
--- the largest index
+-- The largest index.
 abbrev most : ℕ
 most = 2 ^ 64 - 1
 
@@ -33,7 +33,8 @@ lexemes_moved by i j (k ∷ ks) low same high =
     ap (λ l. l ∷ map (relabelled (moved_to by) (moved_to by)) (lexemes_by (i + 1) ks)) (lexeme_moved by i j k first)
     ∙ ap (λ ls. lexeme_of j k ∷ ls) (lexemes_moved by (i + 1) (j + 1) ks (omega (arith, low)) (omega (arith, same)) (omega (arith, high)))
 
--- a tree whose leaves are moved is at its place, with its leaves in place
+-- If the leaves of a tree are moved as far as its tokens, the tree is at its place with its leaves
+-- in place.
 pub moved_there : {s : Sort} (ts : List Token) (from at next : ℕ) (t u : Tree ℕ s) (by : Move) → by.from ≡ from → by.to ≡ at → next ≤ most → u ≡ moved by t → IsThere ts from at next t → IsInPlace ts at next u
 moved_there ts from at next t u by first to inside is p =
     let ks : List TokenKind = slice_range (kinds ts) at next in

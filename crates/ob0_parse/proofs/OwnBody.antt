@@ -1,4 +1,4 @@
--- The reused body of a module.
+-- Proves that the kept body of a module may be reused.
 use Rattle.std.proofs.Common.{ℕ, List, ◌∷◌, Some, true, Result, Ok, Err, is_ok, sym, ◌∙◌, ap, subst, arith}
 use Rattle.std.specs.declared.vec.Vec.{Vec}
 use Rattle.std.specs.declared.alloc.Global.{Global}
@@ -16,11 +16,11 @@ use Rattle.ob0_parse_descent.specs.declared.refusal.ParseRefusal.{ParseRefusal}
 use Rattle.ob0_parse.specs.KeptTokens.{IsTakenBody}
 use Rattle.ob0_parse.proofs.TakenOver.{taken_kept}
 
--- END stops a body
+-- If END follows a body with its leaves in place, that body may be reused.
 pub taken_body : (ts : List Token) (at : ℕ) (x : Vec Statement Global × ℕ) → IsTakenBody ts at x → TokenIs (kind.Reserved reserved.End) ts x.1 true → Taken (body_of (Some x.0)) max_nesting ts at x.1
 taken_body ts at x there ends = taken_kept ts at x.1 (body_of (Some x.0)) (subst (λ w. Stops 16 w) (sym ends.0) (omega arith)) there
 
--- an expected token is here if it is read
+-- An expected token is here exactly if it was read.
 pub token_is : (k : TokenKind) (ts : List Token) (at : ℕ) (r : Result ℕ ParseRefusal) → ReadsToken k ts at r → TokenIs k ts at (is_ok r)
 token_is k ts at (Ok next) h = (h.0 ∙ ap (λ n. Mark k ∷ rest ts n) h.2, h.1)
 token_is k ts at (Err e) h = h.0

@@ -1,4 +1,5 @@
--- The procedures of a module's own block, parsed or reused one after another.
+-- Proves facts about the procedures of a module's own block, which are parsed or reused one after
+-- another.
 use Rattle.std.proofs.Common.{ℕ, ◌<◌, List, [], ◌∷◌, ◌++◌, Result, Ok, Err}
 use Rattle.ob0_scan.specs.declared.lexeme.Token.{Token}
 use Rattle.ob0_tree.specs.declared.tree.Procedure.{Procedure}

@@ -1,5 +1,5 @@
--- A text whose tokens have the same kinds as before, one by one. It has the same tree over token
--- indexes, or the parser refuses it at the same token.
+-- Proves facts about a text whose tokens have the same kinds as before, one by one. It has the same
+-- tree over token indexes, or the parser refuses it at the same token.
 use Rattle.std.proofs.Common.{◌≡◌, ℕ, ◌+◌, ◌≤◌, List, [], ◌∷◌, ◌++◌, map, take, length, refl, sym, ap, ◌∙◌, subst}
 use Rattle.std.proofs.lemmas.List.{map-append, length-map, take-map}
 use Rattle.ob0_scan.specs.declared.lexeme.TokenKind.{TokenKind}
@@ -21,7 +21,8 @@ use Rattle.ob0_parse_descent.specs.declared.refusal.ParseRefusal.TheVariants.{Sy
 use Rattle.ob0_parse.proofs.Keeping.{by_kind}
 use Rattle.ob0_parse.proofs.Whole.{module_spelled, texts, indexes_again, reindexed-take}
 
--- tokens by their indexes, computed from only their kinds
+-- Returns the tokens with their indexes in place of names and numbers, computed only from their
+-- kinds.
 from_kinds : ℕ → List TokenKind → List (Terminal ℕ)
 from_kinds i [] = EndOfText ∷ []
 from_kinds i (k ∷ ks) = lexeme_of i k ∷ from_kinds (i + 1) ks
@@ -47,12 +48,12 @@ tree_stays old new parsed tree short same =
       places = places;
     }
 
--- replacing the names of a text's tokens by indexes gives the tokens by their indexes
+-- Replacing the names and numbers of a text's tokens by indexes gives the tokens by their indexes.
 indexed_again : (s : Scanned) → reindexed 0 (text_lexemes s ++ (EndOfText ∷ [])) ≡ lexemes s.tokens
 indexed_again s = ap (reindexed 0) (sym (texts s)) ∙ indexes_again (text_at s) (value_at s) s.tokens 0
 
--- A tree that begins with the new tokens, with the old names and numbers, begins with the old
--- tokens.
+-- If no module begins with the first tokens of a text, none begins with the first tokens of another
+-- text whose tokens have the same kinds.
 none_begins : (old new : Scanned) (i : ℕ) → kinds new.tokens ≡ kinds old.tokens → NoneBegins old i → NoneBegins new i
 none_begins old new i same none t more shallow begins =
     let r = relabelled (text_at old) (value_at old) in

@@ -1,4 +1,4 @@
--- The parser may reuse the kept trees.
+-- Proves that the parser may reuse the kept trees.
 use Rattle.std.proofs.Common.{◌≡◌, ℕ, ◌+◌, ◌-◌, ◌<◌, ◌≤◌, List, ◌∷◌, ◌++◌, drop, length, sym, ◌∙◌, ap, subst, arith, length-drop}
 use Rattle.ob0_scan.specs.declared.lexeme.Token.{Token}
 use Rattle.ob0_tree.specs.Lexeme.{Terminal}
@@ -19,14 +19,14 @@ count_rest ts at inside =
     let h : length (drop at (lexemes ts)) ≡ length (lexemes ts) - at = length-drop at (lexemes ts) in
     omega (arith, h, count_lexemes 0 ts, inside)
 
--- a next token that stops a tree stops it whatever comes after that token
+-- If a token stops a tree, the token does so whatever comes after it.
 stops_alike : (n : ℕ) (xs w : List (Terminal ℕ)) → SameHead xs w → Stops n xs → Stops n w
 stops_alike n xs w h p =
     let s : Stops n (h.head ∷ h.other) = subst (λ y. Stops n y) h.is p in
     subst (λ y. Stops n y) (sym h.alike) s
 
--- If a tree has its tokens here and the next token stops it, the descent reads it, and it reads no
--- other tree.
+-- If a tree's tokens are here and the next token stops it, the descent reads that tree. No other
+-- tree of the sort has these tokens.
 taken_there : {s : Sort} (t : Tree ℕ s) (room : ℕ) (ts : List Token) (at next : ℕ) → Stops (level s) (rest ts next) → rest ts at ≡ spell t ++ rest ts next → nesting t ≤ room → at ≤ next → next ≤ length ts → Taken t room ts at next
 taken_there {s = s} t room ts at next stops spelled shallow forward within =
     let whole : at + length (spell t ++ rest ts next) ≡ next + length (rest ts next) =
@@ -44,7 +44,7 @@ taken_there {s = s} t room ts at next stops spelled shallow forward within =
       forward = forward;
     }
 
--- a tree at its place, with leaves in place, may be reused
+-- A tree at its place, with its leaves in place, may be reused if the next token stops it.
 pub taken_kept : {s : Sort} (ts : List Token) (at next : ℕ) (t : Tree ℕ s) → Stops (level s) (rest ts next) → IsInPlace ts at next t → Taken t max_nesting ts at next
 unfolding rest
 taken_kept ts at next t stops p =
@@ -52,7 +52,7 @@ taken_kept ts at next t stops p =
     (pieces_of_rest ts at next (omega (arith, p.forward)) p.within ∙ ap (λ w. w ++ rest ts next) (sym p.spelled))
     p.shallow (omega (arith, p.forward)) p.within
 
--- .. and a tree that was read is at its place
+-- A tree that was read is at its place, with its leaves in place.
 pub taken_is_there : {s : Sort} (ts : List Token) (at next : ℕ) (t : Tree ℕ s) → Taken t max_nesting ts at next → at < next → IsInPlace ts at next t
 unfolding rest
 taken_is_there ts at next t p forward = kept_there ts at next t p.spelled p.shallow forward p.within

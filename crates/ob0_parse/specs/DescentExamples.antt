@@ -1,5 +1,5 @@
--- Examples of texts, given by the kinds of their tokens, and the places at which the descent stops
--- in them.
+-- Defines examples of texts, given by the kinds of their tokens, with the places at which the
+-- descent stops in them.
 -- Rule: docs/LANGUAGE.md, Syntax faults (its examples).
 use Rattle.std.specs.Prelude.{ℕ, zero, suc, ◌+◌, List, [], ◌∷◌, ◌++◌}
 use Rattle.ob0_scan.specs.declared.lexeme.TokenKind.{TokenKind}
@@ -13,28 +13,29 @@ use Rattle.ob0_tree.specs.Places.{lexeme_of}
 use Rattle.ob0_parse_descent.specs.Descent.{Stop, Done, Expects, Deep, DescendsText}
 use Rattle.ob0_parse_descent.specs.declared.refusal.Expected.TheVariants as expected
 
--- the tokens of these kinds, and the end of the text
+-- Returns the tokens of these kinds, the first of which has the index i, followed by the end of the
+-- text.
 abbrev pub tokens_from : ℕ → List TokenKind → List (Terminal ℕ)
 tokens_from i [] = EndOfText ∷ []
 tokens_from i (k ∷ ks) = lexeme_of i k ∷ tokens_from (i + 1) ks
 
--- in a text with these kinds of tokens the descent stops like this
+-- Holds if the descent stops like this in a text whose tokens have these kinds.
 abbrev pub DescendsKinds : List TokenKind → Stop → Type 0
 DescendsKinds kinds stop = DescendsText (tokens_from 0 kinds) stop
 
--- a reserved word
+-- Returns the kind of a reserved word.
 abbrev pub w : Reserved → TokenKind
 w r = kind.Reserved r
 
--- a symbol
+-- Returns the kind of a symbol.
 abbrev pub s : Symbol → TokenKind
 s c = kind.Symbol c
 
--- an identifier
+-- The kind of an identifier.
 abbrev pub ident : TokenKind
 ident = kind.Identifier
 
--- an integer
+-- The kind of an integer.
 abbrev pub one : TokenKind
 one = kind.Integer 1
 
@@ -46,12 +47,12 @@ module_begins = w reserved.Module ∷ ident ∷ s symbol.Semicolon ∷ []
 abbrev pub module_ends : List TokenKind
 module_ends = w reserved.End ∷ ident ∷ s symbol.Dot ∷ []
 
--- a list repeated a number of times
+-- Returns the list repeated n times.
 abbrev pub times : ℕ → List TokenKind → List TokenKind
 times zero ks = []
 times (suc n) ks = ks ++ times n ks
 
--- the examples of syntax faults in docs/LANGUAGE.md
+-- Holds if the descent stops in the examples of syntax faults as docs/LANGUAGE.md says.
 pub record ExpectedRows : Type 0 where
   pub empty : DescendsKinds [] (Expects 0 (expected.Word reserved.Module))
   -- MODULE M; BEGIN x = 1 END M.
@@ -92,7 +93,7 @@ pub record ExpectedRows : Type 0 where
   -- MODULE M; BEGIN WriteLn END M.
   pub whole : DescendsKinds (module_begins ++ (w reserved.Begin ∷ ident ∷ module_ends)) Done
 
--- a construct may be nested 100 times; the 101st is too deep
+-- Holds if the descent stops at the 101st of several constructs that are nested in each other.
 pub record DeepRows : Type 0 where
   -- MODULE M; BEGIN, 101 times IF TRUE THEN, 101 times END, END M.
   pub ifs : DescendsKinds (module_begins

@@ -1,4 +1,5 @@
--- Procedures and a body that are kept from an earlier parse, and the tokens that they spell.
+-- Defines the procedures and the body that are kept from an earlier parse, and the tokens that they
+-- spell.
 -- Rule: none; for contracts of `Kept` and of `tree_after`.
 use Rattle.std.specs.declared.vec.Vec.{Vec}
 use Rattle.std.specs.declared.alloc.Global.{Global}
@@ -19,62 +20,64 @@ use Rattle.ob0_parse.specs.declared.kept.Kept.{Kept}
 use Rattle.ob0_parse.specs.declared.kept.KeptBody.{KeptBody}
 use Rattle.ob0_parse.specs.declared.kept.KeptProcedure.{KeptProcedure}
 
--- tokens of these kinds, in the form in which a tree over indexes spells them; the first has this
--- index
+-- Returns tokens of these kinds, in the form in which a tree over indexes spells them. The first
+-- token has the index i.
 abbrev pub lexemes_by : ℕ → List TokenKind → List (Terminal ℕ)
 lexemes_by i [] = []
 lexemes_by i (k ∷ ks) = lexeme_of i k ∷ lexemes_by (i + 1) ks
 
--- the index of a procedure's first token: the one before its name
+-- Returns the index of a procedure's first token, which is the one before its name.
 abbrev pub first_of : Tree ℕ (item procedure) → ℕ
 first_of (declares_procedure name fs b closing) = name - 1
 
--- the index after a procedure's last token, which is the semicolon after its closing name
+-- Returns the index after a procedure's last token, which is the semicolon after its closing name.
 abbrev pub end_of : Tree ℕ (item procedure) → ℕ
 end_of (declares_procedure name fs b closing) = closing + 2
 
--- The tokens `at..next` have the kinds that the tree spells, and its nesting isn't too deep. Its
--- leaves are in place if its first token has the index `from`.
+-- Holds if the tokens `at..next` have the kinds that the tree spells, and its nesting is within the
+-- limit. The leaves of the tree are right if its first token has the index `from`.
 pub record IsThere {s : Sort} (ts : List Token) (from at next : ℕ) (t : Tree ℕ s) : Type 0 where
   pub spelled : spell t ≡ lexemes_by from (slice_range (kinds ts) at next)
   pub shallow : nesting t ≤ max_nesting
   pub forward : at < next
   pub within : next ≤ length ts
 
--- .. with its leaves in place
+-- Holds if the tokens `at..next` have the kinds that the tree spells, its nesting is within the
+-- limit, and its leaves are in place.
 abbrev pub IsInPlace : {s : Sort} → List Token → ℕ → ℕ → Tree ℕ s → Type 0
 IsInPlace ts at next t = IsThere ts at at next t
 
--- the leaves of a made procedure are in place
+-- Holds if the procedure's tokens and leaves are at the place that its own leaves give.
 abbrev pub IsMade : List Token → Procedure → Type 0
 IsMade ts p = IsInPlace ts (first_of (procedure_of p)) (end_of (procedure_of p)) (procedure_of p)
 
--- the tokens of a waiting procedure are at its place
+-- Holds if the tokens of the waiting procedure are at `at..next`. Its leaves may have to be moved.
 abbrev pub IsWaiting : List Token → KeptProcedure → Type 0
 IsWaiting ts k =
     IsThere ts (first_of (procedure_of k.procedure)) k.at k.next (procedure_of k.procedure)
 
--- BEGIN and the statements of a kept body are at its place
+-- Holds if BEGIN and the statements of the kept body are at `at..next`. Its leaves may have to be
+-- moved.
 abbrev pub IsBodyThere : List Token → KeptBody → Type 0
 IsBodyThere ts k = IsThere ts k.from k.at k.next (body_of (Some k.statements))
 
--- .. if a body is kept
+-- Holds if no body is kept, or BEGIN and the statements of the kept body are at their place.
 abbrev pub IsBodyKept : List Token → Option KeptBody → Type 0
 IsBodyKept ts body = IfSome body (IsBodyThere ts)
 
--- each item has a property
+-- Holds if each item of the list has the property.
 abbrev pub Each : {A : Type 0} → (A → Type 0) → List A → Type 0
 Each P [] = Unit {0}
 Each P (x ∷ xs) = P x × Each P xs
 
--- the tokens of every kept tree are at its place
+-- Holds if the tokens of every kept tree are at its place.
 pub record AreKept (ts : List Token) (k : Kept) : Type 0 where
   pub made : Each (IsMade ts) k.made.items
   pub waiting : Each (IsWaiting ts) k.waiting.items
   pub body : IsBodyKept ts k.body
 
--- The body of a module with these procedures; its closing name has this index. BEGIN follows the
--- last procedure, and END follows the statements.
+-- Holds if k is the body of a module with these procedures, whose closing name has the index
+-- `closing`. BEGIN follows the last procedure, and END follows the statements.
 pub record IsMadeBody
     (ps : List Procedure) (statements : Option (Vec Statement Global)) (closing : ℕ) (k : KeptBody)
     : Type 0 where
@@ -86,7 +89,8 @@ pub record IsMadeBody
 
 -- ---- another text
 
--- every tree at a range of the old text is at this range of the new text
+-- Holds if a tree at `at..next` in the old text is at the range `place` in the new text. This is
+-- for any two texts that have these same tokens.
 abbrev pub CarriesTokens : SameTokens → ℕ → ℕ → ℕ × ℕ → Type 0
 CarriesTokens same at next place =
     (s : Sort) (old new : List Token) (from : ℕ) (t : Tree ℕ s)
@@ -94,12 +98,14 @@ CarriesTokens same at next place =
     → IsThere old from at next t
     → IsThere new from place.0 place.1 t
 
--- a waiting procedure of the old text becomes the other one in the new text
+-- Holds if b waits in the new text whenever a waits in the old text. This is for any two texts that
+-- have these same tokens.
 abbrev pub CarriesTo : SameTokens → KeptProcedure → KeptProcedure → Type 0
 CarriesTo same a b =
     (old new : List Token) → HasSameTokens same old new → IsWaiting old a → IsWaiting new b
 
--- adding one waiting procedure of the old text to the kept ones gives these
+-- Holds if the procedures `after` wait in the new text whenever a waits in the old text and
+-- `before` wait in the new one.
 abbrev pub CarriesOne : SameTokens
     → KeptProcedure
     → List KeptProcedure
@@ -112,7 +118,7 @@ CarriesOne same a before after =
     → Each (IsWaiting new) before
     → Each (IsWaiting new) after
 
--- the waiting procedures of the old text become these in the new one
+-- Holds if the procedures ys wait in the new text whenever the procedures xs wait in the old text.
 abbrev pub CarriesAll : SameTokens → List KeptProcedure → List KeptProcedure → Type 0
 CarriesAll same xs ys =
     (old new : List Token)
@@ -120,7 +126,8 @@ CarriesAll same xs ys =
     → Each (IsWaiting old) xs
     → Each (IsWaiting new) ys
 
--- adding one procedure with leaves in place to the kept ones gives these
+-- Holds if the procedures `after` wait in the new text whenever p is in place in the old text and
+-- `before` wait in the new one.
 abbrev pub CarriesMade : SameTokens
     → Procedure
     → List KeptProcedure
@@ -133,7 +140,8 @@ CarriesMade same p before after =
     → Each (IsWaiting new) before
     → Each (IsWaiting new) after
 
--- adding all of these procedures with leaves in place to the kept ones gives these
+-- Holds if the procedures `after` wait in the new text whenever all of ps are in place in the old
+-- text and `before` wait in the new one.
 abbrev pub CarriesAllMade : SameTokens
     → List Procedure
     → List KeptProcedure
@@ -146,7 +154,8 @@ CarriesAllMade same ps before after =
     → Each (IsWaiting new) before
     → Each (IsWaiting new) after
 
--- a body of the old text becomes the other one in the new text
+-- Holds if the body b is at its place in the new text whenever the body a is at its place in the
+-- old text.
 abbrev pub CarriesBody : SameTokens → KeptBody → KeptBody → Type 0
 CarriesBody same a b =
     (old new : List Token)
@@ -154,12 +163,13 @@ CarriesBody same a b =
     → IsBodyThere old a
     → IsBodyThere new b
 
--- .. if there is one
+-- Holds if the body b, if any, is at its place in the new text whenever the body a, if any, is at
+-- its place in the old text.
 abbrev pub CarriesAnyBody : SameTokens → Option KeptBody → Option KeptBody → Type 0
 CarriesAnyBody same a b =
     (old new : List Token) → HasSameTokens same old new → IsBodyKept old a → IsBodyKept new b
 
--- the procedure with its own place
+-- Holds if k is the procedure p with the place that its own leaves give.
 abbrev pub IsMadeAt : Procedure → KeptProcedure → Type 0
 IsMadeAt p k =
     (k.procedure ≡ p)
@@ -168,20 +178,22 @@ IsMadeAt p k =
 
 -- ---- reusing
 
--- a procedure with leaves in place that starts at this token, and the index of the token after it
+-- Holds if x is a procedure and the index of the token after it. The procedure begins at this
+-- index, and its leaves are in place.
 abbrev pub IsTakenAt : List Token → ℕ → Procedure × ℕ → Type 0
 IsTakenAt ts at x = IsInPlace ts at x.1 (procedure_of x.0)
 
--- the procedure is one of the waiting ones
+-- Holds if x is a procedure that begins at this index with its leaves in place, whenever all the
+-- waiting procedures are at their places.
 abbrev pub IsTakenFrom : List KeptProcedure → ℕ → Procedure × ℕ → Type 0
 IsTakenFrom waiting at x = (ts : List Token) → Each (IsWaiting ts) waiting → IsTakenAt ts at x
 
--- the remaining procedures still wait at their places
+-- Holds if the procedures `after` wait at their places whenever the procedures `before` do.
 abbrev pub StayWaiting : List KeptProcedure → List KeptProcedure → Type 0
 StayWaiting before after =
     (ts : List Token) → Each (IsWaiting ts) before → Each (IsWaiting ts) after
 
--- the statements of a body with leaves in place that starts at this token, and the index of the
--- token after it
+-- Holds if x is the statements of a body and the index of the token after it. The body begins at
+-- this index, and its leaves are in place.
 abbrev pub IsTakenBody : List Token → ℕ → Vec Statement Global × ℕ → Type 0
 IsTakenBody ts at x = IsInPlace ts at x.1 (body_of (Some x.0))

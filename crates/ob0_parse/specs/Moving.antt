@@ -1,13 +1,13 @@
--- A tree whose leaves are moved to the places of its tokens in another text.
+-- Defines a tree whose leaves are moved to the places of its tokens in another text.
 -- Rule: none; for private contracts of the parser.
 use Rattle.std.specs.Prelude.{ℕ, ◌+◌, ◌-◌, ◌^◌, min}
 use Rattle.ob0_tree.specs.Tree.{Sort, Tree, mapped}
 use Rattle.ob0_parse.specs.declared.moving.Move.{Move}
 
--- the moved leaf, at most the largest index
+-- Returns the leaf moved by the distance from `by.from` to `by.to`, at most the largest index.
 abbrev pub moved_to : Move → ℕ → ℕ
 moved_to by i = min (i - by.from + by.to) (2 ^ 64 - 1)
 
--- the tree with each leaf moved
+-- Returns the tree with each leaf moved by this distance.
 abbrev pub moved : {s : Sort} → Move → Tree ℕ s → Tree ℕ s
 moved by t = mapped (moved_to by) (moved_to by) t

@@ -1,5 +1,5 @@
--- The results of parsing a module and its own block, whose procedures the parser stores with the
--- kept trees.
+-- Defines the results of parsing a module and its own block, whose procedures the parser stores
+-- with the kept trees.
 -- Rule: none; for private contracts of the parser.
 use Rattle.std.specs.Prelude.{ℕ, List, [], ◌∷◌, Result, Ok, Err, length}
 use Rattle.ob0_scan.specs.declared.lexeme.Token.{Token}
@@ -12,7 +12,7 @@ use Rattle.ob0_parse_descent.specs.Reading.{node, finish, Taken, FailsToRead}
 use Rattle.ob0_parse.specs.declared.own_block.OwnParts.{OwnParts}
 use Rattle.ob0_parse_descent.specs.declared.refusal.ParseRefusal.{ParseRefusal}
 
--- a block of these procedures and the other parts
+-- Returns the tree of a block with these procedures and the other parts.
 abbrev pub own_block_of : List Procedure → OwnParts → Tree ℕ block
 own_block_of ps parts =
     has_body
@@ -20,12 +20,14 @@ own_block_of ps parts =
     (items_of procedure_of ps))
     (body_of parts.body)
 
--- the procedures that start at an index are these, or one of them can't be read
+-- Holds if the procedures ps begin at this index and end at the returned one, or if the refusal of
+-- the procedures is right.
 abbrev pub ReadsOwn : List Procedure → List Token → ℕ → Result ℕ ParseRefusal → Type 0
 ReadsOwn ps ts at (Ok next) = Taken (items_of procedure_of ps) max_nesting ts at next
 ReadsOwn ps ts at (Err e) = FailsToRead (node (items procedure) max_nesting ∷ []) ts at e
 
--- a module from the first token to the last, or the reason why there is none
+-- Holds if the result is the module that the tokens are, from the first to the last, or if the
+-- refusal is right.
 abbrev pub ReadsModule : List Token → Result (ℕ × Block × ℕ) ParseRefusal → Type 0
 ReadsModule ts (Ok x) = Taken (is_module x.0 (block_of x.1) x.2) max_nesting ts 0 (length ts)
 ReadsModule ts (Err e) = FailsToRead (node module_text max_nesting ∷ finish ∷ []) ts 0 e

@@ -1,4 +1,4 @@
--- The kept trees after a parse.
+-- Defines the places of the kept trees after a parse.
 -- Rule: none; for contracts of `tree_after`.
 use Rattle.std.specs.Prelude.{List, Result, Ok, Err}
 use Rattle.ob0_scan.specs.declared.lexeme.Token.{Token}
@@ -7,13 +7,14 @@ use Rattle.ob0_parse_descent.specs.declared.refusal.ParseRefusal.TheVariants.{Sy
 use Rattle.ob0_parse.specs.KeptTokens.{AreKept}
 use Rattle.ob0_parse.specs.declared.kept.Kept.{Kept}
 
--- after this refusal every kept tree is at its place, unless memory ran out
+-- Holds if every kept tree is at its place, unless the refusal is that an allocation failed.
 abbrev pub StayRefused : List Token → Kept → ParseRefusal → Type 0
 StayRefused ts k (Syntax i expected) = AreKept ts k
 StayRefused ts k (TooDeep i) = AreKept ts k
 StayRefused ts k Memory = Unit {0}
 
--- after a parse every kept tree is at its place, unless memory ran out
+-- Holds if every kept tree is at its place after a parse with this result, unless an allocation
+-- failed.
 abbrev pub StayKept : {A : Type 0} → List Token → Kept → Result A ParseRefusal → Type 0
 StayKept ts k (Ok x) = AreKept ts k
 StayKept ts k (Err e) = StayRefused ts k e

@@ -1,11 +1,11 @@
-//! Procedures and bodies from earlier parses, and the places of their tokens in another text.
+//! Keeps procedures and bodies from earlier parses, and the places of their tokens in another text.
 //!
 //! `Kept` holds trees with the places of their tokens: the procedures of the last parse, the
 //! procedures that it didn't reach, and the body of the module. `IsThere` says that a tree's tokens
 //! have the kinds that the tree spells, counted from its own first token. So only the kinds of
 //! these tokens decide whether a tree can be used in another text (`Kept::after`), whatever else
 //! either text contains. A text with a syntax fault keeps the trees that its parser made up to the
-//! fault and the ones that wait after it.
+//! fault, and the ones that wait after the fault.
 //!
 //! Reusing such a tree requires nothing about the parse that made it, except that the next token
 //! ends it. Nothing continues a procedure, which ends in a semicolon (`stops_zero`), and END
@@ -13,10 +13,11 @@
 //! is spelled (`finishes`), so `Taken` follows from the spelling (`taken_there`).
 //!
 //! The leaves of a procedure give its place: its name is its second token, and its closing name is
-//! the last but one. The leaves of a body don't, so a body is kept with the index of its BEGIN. A
-//! tree has that index if it has a procedure: BEGIN is the token after the last one.
+//! the last but one. The leaves of a body don't give its place, so a body is kept with the index of
+//! its BEGIN. That index is known if the module has a procedure: BEGIN is the token after the last
+//! one.
 //!
-//! A kept tree waits with unchanged leaves while the parser stops before it. When the parser
+//! A kept tree waits with unchanged leaves while the parser hasn't reached it. When the parser
 //! reaches it, a walk in place adds the distance that its tokens have moved to its leaves
 //! (`put_in_place`, `moving.rt`). So each procedure and the body, before or after the change, are
 //! reused. The moved tree is `mapped` from the old one, so it spells the current tokens
@@ -36,7 +37,7 @@ use ob0_tree::{ModuleTree, Procedure, Statement};
 use std::alloc::{AllocError, Global};
 
 /// A procedure from an earlier parse. Its tokens are now at `at..next`. Its leaves are still the
-/// old indexes; they must move as far as its first token has moved.
+/// old indexes; they must be moved as far as its first token has moved.
 #[derive(Drop)]
 pub struct KeptProcedure {
     pub procedure: Procedure,
@@ -44,8 +45,8 @@ pub struct KeptProcedure {
     pub next: usize,
 }
 
-/// The statements of a module's own body from an earlier parse. Together with BEGIN, their tokens
-/// are now at `at..next`. Their leaves are right if BEGIN has the index `from`.
+/// The statements of a module's own body from an earlier parse. Their tokens, with BEGIN before
+/// them, are now at `at..next`. Their leaves are right if BEGIN has the index `from`.
 #[derive(Drop)]
 pub struct KeptBody {
     pub statements: Vec<Statement>,
@@ -54,7 +55,7 @@ pub struct KeptBody {
     pub next: usize,
 }
 
-/// The procedures of a module's own block and its body. A later parse reuses them when it reaches
+/// The procedures of a module's own block, and its body. A later parse reuses them when it reaches
 /// their tokens.
 #[derive(Drop)]
 pub struct Kept {
@@ -67,7 +68,7 @@ pub struct Kept {
 }
 
 impl Kept {
-    /// Makes an empty `Kept`.
+    /// Returns a `Kept` without any tree.
     pub fn none(alloc: Global) -> Kept
         ensures { (ts : List Token) → AreKept ts result }
     {
@@ -78,7 +79,7 @@ impl Kept {
         }
     }
 
-    /// Keeps the procedures of a tree, and its body if it has procedures.
+    /// Keeps the procedures of a tree. Also keeps its body if the tree has procedures.
     pub fn of(alloc: Global, tree: ModuleTree) -> Kept
         ensures { (s : Scanned) → IsParsed (parsed_by s tree) → AreKept s.tokens result }
     {
@@ -94,7 +95,8 @@ impl Kept {
         }
     }
 
-    /// Keeps the trees whose tokens are also in the changed text, with their places there.
+    /// Keeps the trees whose tokens are also in the changed text, with their places there. The
+    /// other trees are dropped.
     pub fn after(self, alloc: Global, same: SameTokens) -> Result<Kept, AllocError>
         ensures { IfOk result (λ kept. (old new : List Token)
             → HasSameTokens same old new
@@ -116,8 +118,9 @@ impl Kept {
     }
 }
 
-/// Keeps the body of a module that has one and has these procedures. BEGIN is the token after the
-/// last procedure. END is the token after the statements and before the closing name.
+/// Returns the body of a module with these procedures, with its place. Returns None if the module
+/// has no body or no procedures. BEGIN is the token after the last procedure, and END is between
+/// the statements and the closing name.
 fn made_body(
     made: &Vec<Procedure>,
     body: Option<Vec<Statement>>,
@@ -137,7 +140,8 @@ fn made_body(
     })
 }
 
-/// Keeps the waiting procedures whose tokens are also in the changed text, in the same order.
+/// Returns the waiting procedures whose tokens are also in the changed text, in the same order,
+/// with their places there.
 fn keep_waiting(
     alloc: Global,
     waiting: Vec<KeptProcedure>,
@@ -152,8 +156,8 @@ fn keep_waiting(
     Ok(kept)
 }
 
-/// Appends the procedures with leaves in place whose tokens are also in the changed text. It moves
-/// them from the last to the first.
+/// Appends the procedures with leaves in place whose tokens are also in the changed text, from the
+/// last to the first. `made` is empty afterwards.
 fn keep_made(
     kept: &mut Vec<KeptProcedure>,
     made: &mut Vec<Procedure>,
@@ -169,7 +173,7 @@ fn keep_made(
     Ok(())
 }
 
-/// Appends a procedure if its tokens are also in the changed text.
+/// Appends a procedure with its place in the changed text, if that text has its tokens.
 fn keep(
     kept: &mut Vec<KeptProcedure>,
     procedure: KeptProcedure,
@@ -183,7 +187,8 @@ fn keep(
     Ok(())
 }
 
-/// Appends a procedure with leaves in place if its tokens are also in the changed text.
+/// Appends a procedure with leaves in place, with its place in the changed text, if that text has
+/// its tokens.
 fn keep_one_made(
     kept: &mut Vec<KeptProcedure>,
     procedure: Procedure,
@@ -197,7 +202,8 @@ fn keep_one_made(
     Ok(())
 }
 
-/// Keeps the body if there is one and its tokens are also in the changed text.
+/// Returns the body with its place in the changed text. Returns None if there is no body or the
+/// changed text doesn't have its tokens.
 fn keep_body(body: Option<KeptBody>, same: SameTokens) -> Option<KeptBody>
     ensures { CarriesAnyBody same body result }
 {
@@ -207,7 +213,8 @@ fn keep_body(body: Option<KeptBody>, same: SameTokens) -> Option<KeptBody>
     }
 }
 
-/// Returns a procedure with the place of its tokens, for leaves that are in place.
+/// Returns a procedure whose leaves are in place, with the place that they give. Returns None if
+/// the index after it is too large.
 fn made_at(procedure: Procedure) -> Option<KeptProcedure>
     ensures { IfSome result (IsMadeAt procedure) }
 {
@@ -221,8 +228,8 @@ fn made_at(procedure: Procedure) -> Option<KeptProcedure>
 }
 
 impl KeptProcedure {
-    /// Returns the procedure with its place in the changed text. Returns None if its tokens aren't
-    /// there.
+    /// Returns the procedure with its place in the changed text, or None if the changed text
+    /// doesn't have its tokens.
     fn after(self, same: SameTokens) -> Option<KeptProcedure>
         ensures { IfSome result (CarriesTo same self) }
     {
@@ -236,8 +243,8 @@ impl KeptProcedure {
 }
 
 impl KeptBody {
-    /// Returns the body with its place in the changed text. Returns None if its tokens aren't
-    /// there.
+    /// Returns the body with its place in the changed text, or None if the changed text doesn't
+    /// have its tokens.
     fn after(self, same: SameTokens) -> Option<KeptBody>
         ensures { IfSome result (CarriesBody same self) }
     {
@@ -250,8 +257,7 @@ impl KeptBody {
         })
     }
 
-    /// Returns the statements and the index of the token after them. Leaves that aren't in place
-    /// are moved.
+    /// Returns the statements with their leaves in place, and the index of the token after them.
     pub(crate) fn put_in_place(self) -> (Vec<Statement>, usize)
         ensures placed { (ts : List Token)
             → IsBodyThere ts self
@@ -272,8 +278,8 @@ impl KeptBody {
     }
 }
 
-/// Returns the range in the changed text of the tokens `at..next`. Returns None if they aren't all
-/// there.
+/// Returns the range of the tokens `at..next` in the changed text, or None if that text doesn't
+/// have all of them.
 fn place_after(at: usize, next: usize, same: SameTokens) -> Option<(usize, usize)>
     ensures { IfSome result (CarriesTokens same at next) }
 {
@@ -285,7 +291,8 @@ fn place_after(at: usize, next: usize, same: SameTokens) -> Option<(usize, usize
     Some((at, next))
 }
 
-/// Returns the new index of a token after the change, from its old index.
+/// Returns the new index of a token after the change from its old index, or None if the token isn't
+/// after the change.
 fn place_after_change(index: usize, same: SameTokens) -> Option<usize>
     ensures { IfSome result (λ place. (same.old_suffix ≤ index)
         × (place + same.old_suffix ≡ index + same.new_suffix)) }
@@ -294,8 +301,8 @@ fn place_after_change(index: usize, same: SameTokens) -> Option<usize>
     following.checked_add(same.new_suffix)
 }
 
-/// Removes and returns the kept procedure that begins at this token, if there is one. Procedures
-/// before it are dropped.
+/// Removes and returns the kept procedure that begins at this token, with the index of the token
+/// after it. Returns None if there is none. Procedures that begin before this token are dropped.
 pub(crate) fn kept_at(waiting: &mut Vec<KeptProcedure>, at: usize) -> Option<(Procedure, usize)>
     ensures stay { StayWaiting waiting.old.items waiting.new.items }
     ensures placed { IfSome result (IsTakenFrom waiting.old.items at) }
@@ -308,7 +315,8 @@ pub(crate) fn kept_at(waiting: &mut Vec<KeptProcedure>, at: usize) -> Option<(Pr
     None
 }
 
-/// Removes and returns the next kept procedure if it begins at or before this token.
+/// Removes and returns the next waiting procedure if it begins at or before this token, otherwise
+/// returns None.
 fn pop_by(waiting: &mut Vec<KeptProcedure>, at: usize) -> Option<KeptProcedure>
     ensures rest { waiting.old.items ≡ waiting.new.items ++ option_to_list result }
 {
@@ -323,8 +331,7 @@ fn pop_by(waiting: &mut Vec<KeptProcedure>, at: usize) -> Option<KeptProcedure>
     waiting.pop()
 }
 
-/// Returns the procedure and the index of the token after it. Leaves that aren't in place are
-/// moved.
+/// Returns the procedure with its leaves in place, and the index of the token after it.
 fn put_in_place(kept: KeptProcedure) -> (Procedure, usize)
     ensures { (ts : List Token) → IsWaiting ts kept → IsTakenAt ts kept.at result }
 {

@@ -1,4 +1,4 @@
-//! Laws of the definitions that the contracts cite.
+//! States laws about the definitions that the contracts cite.
 
 ghost use Rattle.std.specs.Prelude.{ℕ, List};
 ghost use Rattle.ob0_scan.specs.Scanned.{Scanned};
@@ -8,12 +8,13 @@ ghost use Rattle.ob0_tree.specs.Tree.{Tree, module_text};
 ghost use Rattle.ob0_parse_descent.specs.Descent.{DescendsText, Done, OneStop};
 ghost use Rattle.ob0_parse.specs.DescentExamples.{DeepRows, ExpectedRows};
 
-/// States that the tokens determine where the descent stops, and what it expects there.
+/// Proves that the tokens determine where the descent stops, and the token or construct that is
+/// expected there.
 pub fn one_stop()
     ensures { OneStop }
 {}
 
-/// States that the descent reads each module to its end. So a text in which it stops earlier is no
+/// Proves that the descent reads each module to its end. So a text in which it stops earlier is no
 /// module.
 pub fn modules_are_read()
     ensures { (text : Scanned) (tree : Tree (List ℕ) module_text)
@@ -21,7 +22,7 @@ pub fn modules_are_read()
         → DescendsText (lexemes text.tokens) Done }
 {}
 
-/// Gives the place at which the descent stops in some texts.
+/// Proves at which places the descent stops in some texts.
 pub fn stops_of_examples()
     ensures expected { ExpectedRows }
     ensures deep { DeepRows }

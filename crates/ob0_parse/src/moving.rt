@@ -12,8 +12,8 @@ use ob0_tree::{
     Simple, Statement, Term, TypeDeclaration, Variables, While, WrittenType,
 };
 
-/// A move of tokens: the token at `from` is now at `to`, and every later token moves by the same
-/// distance.
+/// A move of tokens: the token that was at `from` is now at `to`, and every later token has moved
+/// by the same distance.
 #[derive(Clone, Copy)]
 pub(crate) struct Move {
     pub from: usize,

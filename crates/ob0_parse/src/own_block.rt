@@ -1,5 +1,5 @@
-//! Parses a module: its name, its own block and its closing name. The block's procedures and body
-//! may be reused ones.
+//! Parses a module: its name, its own block and its closing name. Kept procedures and a kept body
+//! are reused.
 
 ghost use Rattle.std.specs.Prelude.{◌≡◌, ◌≤◌, Some, IfSome, length};
 ghost use Rattle.ob0_scan.specs.declared.lexeme.TokenKind.TheVariants as kind;
@@ -18,8 +18,8 @@ use ob0_scan::{Reserved, Symbol};
 use ob0_tree::{Block, Constant, MAX_NESTING, Procedure, Statement, TypeDeclaration, Variables};
 use std::mem;
 
-/// Parses the declarations and the body of a module. The procedures are stored in `kept`; a reused
-/// body is removed from it.
+/// Parses the declarations and the body of a module. The procedures are stored in `kept`. If the
+/// kept body is reused, it is removed from `kept`.
 fn own_block(parser: &Parser<'_>, at: usize, kept: &mut Kept) -> Parsed<OwnParts>
     requires at { at ≤ length parser.now.tokens.now }
     requires kept { AreKept parser.now.tokens.now kept.old }
@@ -43,7 +43,8 @@ fn own_block(parser: &Parser<'_>, at: usize, kept: &mut Kept) -> Parsed<OwnParts
     ))
 }
 
-/// Parses `{procedure ";"}` of a module's own block. The procedures are stored in `kept`.
+/// Parses `{procedure ";"}` of a module's own block, and returns the index of the token after them.
+/// The procedures are stored in `kept`.
 fn own_procedures(parser: &Parser<'_>, at: usize, kept: &mut Kept) -> Result<usize, ParseRefusal>
     requires at { at ≤ length parser.now.tokens.now }
     requires kept { AreKept parser.now.tokens.now kept.old }
@@ -59,8 +60,8 @@ fn own_procedures(parser: &Parser<'_>, at: usize, kept: &mut Kept) -> Result<usi
     Ok(next)
 }
 
-/// Returns a procedure of a module's own block: the kept one if one begins here, otherwise a parsed
-/// one.
+/// Returns the procedure of a module's own block that begins at this token: the kept one if there
+/// is one, otherwise a parsed one. Returns None if no procedure begins here.
 fn own_procedure(
     parser: &Parser<'_>,
     at: usize,
@@ -77,7 +78,7 @@ fn own_procedure(
     }
 }
 
-/// Returns the body of a module: the kept one if it is here, otherwise a parsed one.
+/// Returns the body of a module: the kept one if it begins at this token, otherwise a parsed one.
 fn own_body(
     parser: &Parser<'_>,
     at: usize,
@@ -94,9 +95,9 @@ fn own_body(
     }
 }
 
-/// Returns the kept body if BEGIN is this token and END follows its statements. Otherwise the body
-/// stays in `kept`: the text before BEGIN or END may have a syntax fault, and after it is fixed the
-/// body is reused.
+/// Removes and returns the kept body if its BEGIN is at this token and END follows its statements.
+/// Otherwise returns None, and the body stays in `kept`: the text before BEGIN or END may have a
+/// syntax fault, and the body can be reused when that is fixed.
 fn kept_body(
     parser: &Parser<'_>,
     at: usize,
@@ -123,7 +124,8 @@ fn is_end(parser: &Parser<'_>, at: usize) -> bool
     parser.expect_word(at, Reserved::End).is_ok()
 }
 
-/// Parses a whole module: its name, its block and its closing name.
+/// Parses a whole module. Returns the index of its name, its block, and the index of its closing
+/// name.
 pub(crate) fn module(
     parser: &Parser<'_>,
     kept: &mut Kept,
@@ -158,7 +160,7 @@ struct OwnParts {
 }
 
 impl OwnParts {
-    /// Joins these parts and the procedures into a block.
+    /// Returns the block of these parts and the procedures.
     fn with(self, procedures: Vec<Procedure>) -> Block
         ensures { block_of result ≡ own_block_of procedures.items self }
     {

@@ -1,5 +1,5 @@
--- Lists that begin with different tokens aren't equal. Citing these lemmas costs little even if
--- many facts are in scope.
+-- Proves that lists that begin with different tokens aren't equal. Citing these lemmas costs little
+-- even if many facts are in scope.
 use Rattle.std.proofs.Common.{◌≡◌, ℕ, List, ◌∷◌}
 use Rattle.ob0_scan.specs.declared.lexeme.TokenKind.{TokenKind}
 use Rattle.ob0_scan.specs.declared.lexeme.TokenKind.TheVariants as kind
@@ -34,6 +34,6 @@ becomes_not_paren e = cc
 pub array_not_record : {N : Type 0} {x y : List (Terminal N)} → Mark (kind.Reserved reserved.Array) ∷ x ≡ Mark (kind.Reserved reserved.Record) ∷ y → ⊥
 array_not_record e = cc
 
--- the numbers at the head of two equal lists are equal
+-- If two lists that begin with numbers are equal, the numbers are equal.
 pub number_of : {N : Type 0} {i j : ℕ} {x y : List (Terminal N)} → Number i ∷ x ≡ Number j ∷ y → i ≡ j
 number_of e = cc

@@ -1,4 +1,4 @@
--- Arguments of a call: reading them and refusing them.
+-- Proves that the arguments of a call are read and refused correctly.
 use Rattle.std.proofs.Common.{◌≡◌, ℕ, ◌+◌, ◌<◌, Option, Some, None, Bool, true, false, List, [], ◌∷◌, ◌++◌, length, refl, sym, ◌∙◌, ap, subst, arith, append_assoc, if◌then◌else◌}
 use Rattle.ob0_scan.specs.declared.lexeme.TokenKind.{TokenKind}
 use Rattle.ob0_scan.specs.declared.lexeme.TokenKind.TheVariants as kind
@@ -20,7 +20,7 @@ use Rattle.ob0_tree.specs.declared.tree.Sign.TheVariants as signs
 use Rattle.ob0_tree.specs.View.{expression_of, further_argument_of, arguments_listed, items_of}
 use Rattle.ob0_parse_descent.proofs.OneToken.{mark_is}
 
--- true if an expression may begin with a token
+-- Returns true if an expression may begin with this token.
 abbrev opening : Terminal ℕ → Bool
 opening (Name n) = true
 opening (Number n) = true
@@ -39,7 +39,7 @@ next_opening (Number n) w = refl
 next_opening (Mark k) w = refl
 next_opening EndOfText w = refl
 
--- an expression is next if the tokens begin with a tree of an expression
+-- If the tokens begin with a factor, an expression may begin with them.
 factor_next : (f : Tree ℕ factor) (x : List (Terminal ℕ)) → is_expression_next (spell f ++ x) ≡ true
 factor_next (designator n ss) x = refl
 factor_next (integer n) x = refl
@@ -63,7 +63,7 @@ opens t y x z e = sym (next_opening y z) ∙ (ap is_expression_next (sym e) ∙ 
 true_false : {b : Bool} → b ≡ true → b ≡ false → ⊥
 true_false p q = let e = sym p ∙ q in cc
 
--- the production that the token after `(` determines
+-- The token after `(` determines the production of the arguments.
 arguments_read : {room : ℕ} {ts : List Token} {at : ℕ} {b : Bool} → is_expression_next (rest ts (at + 1)) ≡ b → rest ts at ≡ Mark (kind.Symbol symbol.LeftParen) ∷ rest ts (at + 1)
     → ReadAs (node (item arguments) room ∷ []) (if b then node expression room ∷ node (items further_argument) room ∷ token (kind.Symbol symbol.RightParen) ∷ [] else token (kind.Symbol symbol.RightParen) ∷ []) ts at (at + 1)
 arguments_read {room = room} {ts = ts} {at = at} {b = true} e here = read_led (node expression room ∷ node (items further_argument) room ∷ token (kind.Symbol symbol.RightParen) ∷ [])
@@ -77,7 +77,7 @@ expression_next ts at f opened first = ap is_expression_next first ∙ (next_ope
 abbrev pub arguments_following : ℕ → List Part
 arguments_following room = node expression room ∷ node (items further_argument) room ∷ token (kind.Symbol symbol.RightParen) ∷ []
 
--- if no expression can begin after `(`, `)` must come next
+-- If no expression can begin after `(`, `)` must come next.
 none_parts : (room i : ℕ) (f : Option TokenKind) (xs z w : List (Terminal ℕ)) → opens_expression f ≡ false → xs ≡ lexeme_at i f ∷ z → SameHead xs w → Begins (node (item arguments) room ∷ []) (Mark (kind.Symbol symbol.LeftParen) ∷ w) → Begins (token (kind.Symbol symbol.RightParen) ∷ []) w
 none_parts room i f xs y w closed here h (no_arguments, z, e, n, s, b) = (z, tail_of e, tt)
 none_parts room i f xs y w closed here h (some_arguments a es, z, e, n, s, b) =

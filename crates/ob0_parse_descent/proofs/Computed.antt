@@ -1,4 +1,4 @@
--- The descent as a computation of its stop, with a bound on its steps.
+-- Computes the stop of the descent, with a bound on its steps, and proves the result right.
 use Rattle.std.proofs.Common.{◌≡◌, ◌==◌, ℕ, zero, suc, ◌+◌, Bool, true, false, Option, Some, None, List, [], ◌∷◌, ◌++◌, refl, sym, ◌∙◌, ap, subst, eqb-true, eq-eqb, true≢false, if◌then◌else◌}
 use Rattle.ob0_scan.specs.declared.lexeme.TokenKind.TheVariants as kind
 use Rattle.ob0_scan.specs.declared.lexeme.Reserved.{Reserved}
@@ -10,7 +10,7 @@ use Rattle.ob0_tree.specs.Tree.{Sort}
 use Rattle.ob0_parse_descent.specs.Descent.{Part, token, name, number, node, finish, Choice, parts, missing, too_deep, chosen, Stop, Done, Expects, Deep, Descends, done, taken, other, made, absent, deep}
 use Rattle.ob0_parse_descent.specs.declared.refusal.Expected.TheVariants as expected
 
--- a number for each reserved word and symbol, and back
+-- Numbers the reserved words and symbols, so that they can be compared.
 
 abbrev pub word_code : Reserved → ℕ
 word_code reserved.Module = 0
@@ -149,7 +149,7 @@ sign_back symbol.RightParen = refl
 sign_back symbol.LeftBracket = refl
 sign_back symbol.RightBracket = refl
 
--- true if a token is this reserved word or symbol
+-- Returns true if the token is this reserved word.
 abbrev pub is_word : Reserved → Terminal ℕ → Bool
 is_word w (Mark (kind.Reserved v)) = word_code w == word_code v
 is_word w x = false

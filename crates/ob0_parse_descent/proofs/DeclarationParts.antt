@@ -1,4 +1,4 @@
--- Declarations: reading them and refusing them.
+-- Proves that declarations are read and refused correctly.
 use Rattle.std.proofs.Common.{◌≡◌, ◌≢◌, ℕ, Bool, true, false, ◌+◌, ◌<◌, ◌≤◌, List, [], ◌∷◌, ◌++◌, length, refl, sym, ◌∙◌, ap, subst, arith, append_assoc, if◌then◌else◌}
 use Rattle.ob0_scan.specs.declared.lexeme.TokenKind.{TokenKind}
 use Rattle.ob0_scan.specs.declared.lexeme.TokenKind.TheVariants as kind
@@ -24,9 +24,9 @@ use Rattle.ob0_tree.specs.View.{section_of, further_section_of, formals_listed, 
 use Rattle.ob0_parse_descent.proofs.TypeParts.{unnested, typed_following, chosen_fields}
 use Rattle.ob0_parse_descent.proofs.Apart.{name_not_mark}
 
--- section = [VAR] names ":" type
+-- Lemmas on sections of parameters: `[VAR] names ":" type`.
 
--- if names, a colon and a type were read as fields, the descent reads them
+-- If names, a colon and a type were read as a group of fields, the descent reads these three parts.
 typed_read : {room : ℕ} {ts : List Token} {at n : ℕ} (ns : Tree ℕ names) (t : Tree ℕ written_type) → Taken (some_fields ns t) room ts at n → ReadAs (typed_following room) [] ts at n
 typed_read {room = room} ns t p = read_back (chosen_fields room ns _ (p.spelled ∙ append_assoc (spell ns) _ _)) p.reads
 
@@ -57,12 +57,12 @@ variable_parts room w (variable_section ns t, z, e, n, s, b) = (ns, _, tail_of e
 pub variable_section_fails : {room : ℕ} {ts : List Token} {at : ℕ} {e : ParseRefusal} → rest ts at ≡ Mark (kind.Reserved reserved.Var) ∷ rest ts (at + 1) → FailsToRead (typed_following room) ts (at + 1) e → FailsToRead (node section room ∷ []) ts at e
 variable_section_fails {room = room} here q = fails_following {qs = typed_following room} (read_led (typed_following room) refl here) here (variable_parts room) q
 
--- formals = "(" [section {";" section}] ")"
+-- Lemmas on formal parameters: `"(" [section {";" section}] ")"`.
 
 abbrev pub formals_following : ℕ → List Part
 formals_following room = node section room ∷ node (items further_section) room ∷ token (kind.Symbol symbol.RightParen) ∷ []
 
--- the production that the token after `(` determines
+-- The token after `(` determines the production of formal parameters.
 formals_read : {room : ℕ} {ts : List Token} {at : ℕ} {b : Bool} → is_section_next (rest ts (at + 1)) ≡ b → rest ts at ≡ Mark (kind.Symbol symbol.LeftParen) ∷ rest ts (at + 1) → ReadAs (node (item formals) room ∷ []) (if b then formals_following room else token (kind.Symbol symbol.RightParen) ∷ []) ts at (at + 1)
 formals_read {room = room} {b = true} e here = read_led (formals_following room) (ap (λ c. if c then parts (sign symbol.LeftParen ∷ formals_following room) else parts (sign symbol.LeftParen ∷ sign symbol.RightParen ∷ [])) e) here
 formals_read {room = room} {b = false} e here = read_led (token (kind.Symbol symbol.RightParen) ∷ []) (ap (λ c. if c then parts (sign symbol.LeftParen ∷ formals_following room) else parts (sign symbol.LeftParen ∷ sign symbol.RightParen ∷ [])) e) here
@@ -72,7 +72,8 @@ no_section (Name n) w p o = absurd (p refl)
 no_section (Mark (kind.Reserved reserved.Var)) w p o = absurd (o refl)
 no_section x w p o = refl
 
--- the answers of `section_may_begin`
+-- If an identifier is next, a section of formal parameters may begin. The next lemmas prove the
+-- other answers of `section_may_begin`.
 pub name_is_section : (ts : List Token) (at : ℕ) → NameIs ts at true → SectionMayBegin ts at true
 name_is_section ts at h = (record { fault = Name at; here = h.0; differs = λ e. cc; within = omega (arith, h.1) }, ap is_section_next h.0)
 
@@ -128,7 +129,7 @@ taken_formals {room = room} {ts = ts} {at = at} {n = n} xs here p close =
       forward = omega (arith, p.head.forward, p.tail.forward, close.2);
     }
 
--- constant = identifier "=" expression ";"
+-- Lemmas on declarations of constants: `identifier "=" expression ";"`.
 
 pub taken_constant : {room : ℕ} {ts : List Token} {at m n k : ℕ} (a : Tree ℕ expression) → rest ts at ≡ Name at ∷ rest ts (at + 1) → (rest ts (at + 1) ≡ Mark (kind.Symbol symbol.Equal) ∷ rest ts m) × (at + 1 < length ts) × (m ≡ at + 1 + 1) → Taken a room ts m n → (rest ts n ≡ Mark (kind.Symbol symbol.Semicolon) ∷ rest ts k) × (n < length ts) × (k ≡ n + 1) → Taken (declares_constant at a) room ts at k
 taken_constant {at = at} a here equal p close = record {
@@ -149,7 +150,7 @@ constant_parts room w (declares_constant k a, z, e, n, s, b) = (k, _, e, (_, ref
 pub constant_fails : {room : ℕ} {ts : List Token} {at : ℕ} {e : ParseRefusal} → rest ts at ≡ Name at ∷ rest ts (at + 1) → FailsToRead (constant_following room) ts at e → ItemFails constant room ts at e
 constant_fails {room = room} here q = record { is_here = subst (λ y. Starts 7 y) (sym here) refl; fails = fails_weaken {qs = constant_following room} (read_made refl) (λ w h b. constant_parts room w b) q }
 
--- type declaration = identifier "=" type ";"
+-- Lemmas on declarations of types: `identifier "=" type ";"`.
 
 pub taken_type_name : {room : ℕ} {ts : List Token} {at m n k : ℕ} (a : Tree ℕ written_type) → rest ts at ≡ Name at ∷ rest ts (at + 1) → (rest ts (at + 1) ≡ Mark (kind.Symbol symbol.Equal) ∷ rest ts m) × (at + 1 < length ts) × (m ≡ at + 1 + 1) → Taken a room ts m n → (rest ts n ≡ Mark (kind.Symbol symbol.Semicolon) ∷ rest ts k) × (n < length ts) × (k ≡ n + 1) → Taken (declares_type at a) room ts at k
 taken_type_name {at = at} a here equal p close = record {
@@ -170,7 +171,7 @@ type_name_parts room w (declares_type k a, z, e, n, s, b) = (k, _, e, (_, refl, 
 pub type_name_fails : {room : ℕ} {ts : List Token} {at : ℕ} {e : ParseRefusal} → rest ts at ≡ Name at ∷ rest ts (at + 1) → FailsToRead (type_name_following room) ts at e → ItemFails type_name room ts at e
 type_name_fails {room = room} here q = record { is_here = subst (λ y. Starts 7 y) (sym here) refl; fails = fails_weaken {qs = type_name_following room} (read_made refl) (λ w h b. type_name_parts room w b) q }
 
--- variables = names ":" type ";"
+-- Lemmas on declarations of variables: `names ":" type ";"`.
 
 pub taken_variable : {room : ℕ} {ts : List Token} {at m n : ℕ} (ns : Tree ℕ names) (t : Tree ℕ written_type) → Taken (some_fields ns t) room ts at m → (rest ts m ≡ Mark (kind.Symbol symbol.Semicolon) ∷ rest ts n) × (m < length ts) × (n ≡ m + 1) → Taken (declares_variable ns t) room ts at n
 taken_variable {ts = ts} {n = n} ns t p close = record {
@@ -199,7 +200,7 @@ variable_fails_typed {room = room} here q = record { is_here = subst (λ y. Star
 pub variable_fails : {room : ℕ} {ts : List Token} {at : ℕ} {e : ParseRefusal} → rest ts at ≡ Name at ∷ rest ts (at + 1) → FailsToRead (variable_following room) ts at e → ItemFails variable room ts at e
 variable_fails {room = room} here q = record { is_here = subst (λ y. Starts 7 y) (sym here) refl; fails = fails_weaken {qs = variable_following room} (record { on = λ o more r. made _ refl (unmade (ap (λ w. chosen fields room w) here) r) }) (λ w h b. variable_closed room w b) q }
 
--- block = declarations [BEGIN sequence]
+-- Lemmas on blocks: `declarations [BEGIN sequence]`.
 
 abbrev pub block_parts : ℕ → List Part
 block_parts room = node (maybe constants) room ∷ node (maybe type_names) room ∷ node (maybe variables) room ∷ node (items procedure) room ∷ node (maybe body) room ∷ []
@@ -253,7 +254,7 @@ block_begins room w (has_body (declares cs ds vs ps) b, z, e, n, s, x) =
 pub block_fails : {room : ℕ} {ts : List Token} {at : ℕ} {e : ParseRefusal} → FailsToRead (block_parts room) ts at e → FailsToRead (node block room ∷ []) ts at e
 block_fails {room = room} q = fails_weaken {qs = block_parts room} block_read (λ w h b. block_begins room w b) q
 
--- procedure = PROCEDURE identifier [formals] ";" block END identifier ";"
+-- Lemmas on procedures: `PROCEDURE identifier [formals] ";" block END identifier ";"`.
 
 abbrev pub procedure_following : ℕ → List Part
 procedure_following inner = name ∷ node (maybe formals) inner ∷ token (kind.Symbol symbol.Semicolon) ∷ node block inner ∷ token (kind.Reserved reserved.End) ∷ name ∷ token (kind.Symbol symbol.Semicolon) ∷ []
@@ -284,7 +285,7 @@ procedure_too_deep {ts = ts} {at = at} {e = e} l o here = record {
   fails = subst (λ r. FailsToRead (node (item procedure) r ∷ []) ts at e) (sym o.0) (too_deep_at_once l o.1 here (λ more. deep (ap (λ w. chosen (item procedure) 0 w) here)) no_procedure);
 }
 
--- module = MODULE identifier ";" block END identifier "."
+-- Lemmas on modules: `MODULE identifier ";" block END identifier "."`.
 
 pub taken_module : {room : ℕ} {ts : List Token} {m n p : ℕ} (i a j k : ℕ) (b : Tree ℕ block) (x y : ℕ) → (rest ts 0 ≡ Mark (kind.Reserved reserved.Module) ∷ rest ts i) × (0 < length ts) × (i ≡ 0 + 1) → (rest ts i ≡ Name x ∷ rest ts a) × (a ≡ i + 1) → (rest ts a ≡ Mark (kind.Symbol symbol.Semicolon) ∷ rest ts m) × (a < length ts) × (m ≡ a + 1) → Taken b room ts m n → (rest ts n ≡ Mark (kind.Reserved reserved.End) ∷ rest ts j) × (n < length ts) × (j ≡ n + 1) → (rest ts j ≡ Name y ∷ rest ts k) × (k ≡ j + 1) → (rest ts k ≡ Mark (kind.Symbol symbol.Dot) ∷ rest ts p) × (k < length ts) × (p ≡ k + 1) → Taken (is_module x b y) room ts 0 p
 taken_module i a j k b x y here named semi qb last closing close = record {
@@ -306,7 +307,7 @@ module_begins w (is_module x b y, z, e, n, s, q) =
 pub module_fails : {ts : List Token} {e : ParseRefusal} → FailsToRead module_parts ts 0 e → FailsToRead (node module_text 100 ∷ finish ∷ []) ts 0 e
 module_fails q = fails_weaken {qs = module_parts} (record { on = λ o more r. made _ refl r }) (λ w h b. module_begins w b) q
 
--- a token isn't the end of the text
+-- A token isn't the end of the text.
 not_end : (i : ℕ) (k : TokenKind) → lexeme_of i k ≡ EndOfText → ⊥
 not_end i kind.Identifier e = cc
 not_end i (kind.Integer _) e = cc

@@ -1,4 +1,4 @@
--- The descent: it has only one stop, and reads parts one after another.
+-- Proves that the descent has only one stop, and that it reads parts one after another.
 use Rattle.std.proofs.Common.{◌≡◌, ℕ, suc, ◌+◌, ◌<◌, Bool, true, false, Option, Some, None, List, [], ◌∷◌, ◌++◌, length, refl, sym, ◌∙◌, ap, subst, arith, eqb-true, eq-eqb, if◌then◌else◌}
 use Rattle.ob0_scan.specs.declared.lexeme.TokenKind.{TokenKind}
 use Rattle.ob0_scan.specs.declared.lexeme.Token.{Token}
@@ -9,7 +9,7 @@ use Rattle.ob0_parse_descent.specs.Descent.{Part, token, name, number, node, par
 use Rattle.ob0_parse_descent.specs.Reading.{rest, ReadAs}
 use Rattle.ob0_parse_descent.specs.declared.refusal.Expected.{Expected}
 
--- there is only one stop
+-- ---- there is only one stop
 
 same_parts : {a b : List Part} → parts a ≡ parts b → a ≡ b
 same_parts e = cc
@@ -63,15 +63,16 @@ same_stop (deep c) (deep d) = refl
 pub as_is : {qs : List Part} {ts : List Token} {at : ℕ} → ReadAs qs qs ts at at
 as_is = record { on = λ o more r. r }
 
--- reads one part, then the parts after it
+-- If the descent reads one part and then other parts, it reads all of them.
 pub both : {p : Part} {qs rs : List Part} {ts : List Token} {a b c : ℕ} → ReadAs (p ∷ []) [] ts a b → ReadAs qs rs ts b c → ReadAs (p ∷ qs) rs ts a c
 both {qs = qs} p q = record { on = λ o more r. p.on o (qs ++ more) (q.on o more r) }
 
--- reads parts as other parts, if these are read in their place
+-- If the descent reads some parts as other parts, and these as others again, it reads the first as
+-- the last.
 pub by : {ps qs rs : List Part} {ts : List Token} {a b c : ℕ} → ReadAs ps qs ts a b → ReadAs qs rs ts b c → ReadAs ps rs ts a c
 by p q = record { on = λ o more r. p.on o more (q.on o more r) }
 
--- reads one token
+-- Proves that the descent reads a part that is one token.
 
 read_part : {p : Part} {x : Terminal ℕ} {ts : List Token} {at next : ℕ} → IsPart p x → rest ts at ≡ x ∷ rest ts next → next ≡ at + 1 → ReadAs (p ∷ []) [] ts at next
 read_part {p = p} {ts = ts} {at = at} {next = next} is here following = record {
@@ -88,26 +89,28 @@ read_name {n = n} here following = read_part (n, refl) here following
 pub read_number : {n : ℕ} {ts : List Token} {at next : ℕ} → rest ts at ≡ Number n ∷ rest ts next → next ≡ at + 1 → ReadAs (number ∷ []) [] ts at next
 read_number {n = n} here following = read_part (n, refl) here following
 
--- reads a word or symbol, given the answer of a parser function
+-- If a parser function has read this reserved word or symbol, the descent reads it.
 pub read_mark : {k : TokenKind} {ts : List Token} {at next : ℕ} → (rest ts at ≡ Mark k ∷ rest ts next) × (at < length ts) × (next ≡ at + 1) → ReadAs (token k ∷ []) [] ts at next
 read_mark h = read_token h.0 h.2
 
--- reads a construct by the production that is chosen here
+-- The descent reads a construct as the parts of the production that is chosen here.
 pub read_made : {s : Sort} {room : ℕ} {ts : List Token} {at : ℕ} {qs : List Part} → chosen s room (rest ts at) ≡ parts qs → ReadAs (node s room ∷ []) qs ts at at
 read_made {qs = qs} c = record { on = λ o more r. made qs c r }
 
--- reads a construct whose production begins with this token
+-- The descent reads a construct whose production begins with this token as the parts after that
+-- token.
 pub read_led : {s : Sort} {room : ℕ} {k : TokenKind} {ts : List Token} {at : ℕ} (qs : List Part) → chosen s room (Mark k ∷ rest ts (at + 1)) ≡ parts (token k ∷ qs) → rest ts at ≡ Mark k ∷ rest ts (at + 1) → ReadAs (node s room ∷ []) qs ts at (at + 1)
 read_led {s = s} {room = room} {k = k} qs c here =
     by (read_made (ap (λ w. chosen s room w) here ∙ c)) (both (read_token here refl) as_is)
 
--- reads such a construct if it counts for nesting
+-- The descent reads a construct that counts for nesting as the parts after its first token, with
+-- one level less.
 pub read_opened : {s : Sort} {room : ℕ} {k : TokenKind} {ts : List Token} {at : ℕ} (inner : ℕ) (f : ℕ → List Part) → chosen s room (Mark k ∷ rest ts (at + 1)) ≡ nested room (λ n. token k ∷ f n) → room ≡ inner + 1 → rest ts at ≡ Mark k ∷ rest ts (at + 1) → ReadAs (node s room ∷ []) (f inner) ts at (at + 1)
 read_opened {k = k} inner f c d here =
     let one : inner + 1 ≡ suc inner = omega arith in
     read_led (f inner) (c ∙ ap (λ n. nested n (λ m. token k ∷ f m)) (d ∙ one)) here
 
--- whether an item is next is computed by `is_next`
+-- Proves that `is_next` computes whether an item is next.
 
 pub next_item : (i : Item) (w : List (Terminal ℕ)) → Starts (item_rank i) w → is_next i w ≡ true
 next_item i [] s = absurd s
@@ -130,7 +133,7 @@ read_one {i = i} {room = room} {ts = ts} {at = at} s = read_made (ap (λ b. if b
 pub read_none : {i : Item} {room : ℕ} {ts : List Token} {at : ℕ} → ¬ Starts (item_rank i) (rest ts at) → ReadAs (node (maybe i) room ∷ []) [] ts at at
 read_none {i = i} {room = room} {ts = ts} {at = at} lacks = read_made (ap (λ b. if b then parts (node (item i) room ∷ []) else parts []) (no_next i (rest ts at) lacks _ refl))
 
--- if the descent reads a construct, it reads the parts of the construct there
+-- If the descent reads a construct, it reads the parts of the construct's production there.
 pub unmade : {s : Sort} {room : ℕ} {qs ps : List Part} {i : ℕ} {tokens : List (Terminal ℕ)} {o : Stop} → chosen s room tokens ≡ parts qs → Descends (node s room ∷ ps) i tokens o → Descends (qs ++ ps) i tokens o
 unmade c (taken is r) = absurd is
 unmade c (other differs e) = absurd (none_some e)

@@ -1,4 +1,4 @@
--- The productions of expressions: reading them and refusing them.
+-- Proves that the productions of expressions are read and refused correctly.
 use Rattle.std.proofs.Common.{◌≡◌, ℕ, ◌+◌, ◌<◌, ◌≤◌, Option, Some, None, List, [], ◌∷◌, ◌++◌, length, refl, sym, ◌∙◌, ap, subst, arith, append_assoc}
 use Rattle.ob0_scan.specs.declared.lexeme.TokenKind.{TokenKind}
 use Rattle.ob0_scan.specs.declared.lexeme.TokenKind.TheVariants as kind
@@ -31,15 +31,15 @@ use Rattle.ob0_parse_descent.proofs.Descent.{as_is, both, by, read_token, read_n
 use Rattle.ob0_parse_descent.proofs.OneToken.{mark_is, name_is, number_is, rank_of}
 use Rattle.ob0_parse_descent.proofs.Apart.{name_not_mark, name_not_number, number_not_mark, paren_not_tilde, dot_not_bracket, number_of}
 
--- joins the texts of two parts, one after the other
+-- If a list begins with a and its rest begins with b, the list begins with a followed by b.
 pub joined : {A : Type 0} {x y : List A} (z a b : List A) → x ≡ a ++ y → y ≡ b ++ z → x ≡ (a ++ b) ++ z
 joined z a b p q = p ∙ (ap (λ w. a ++ w) q ∙ sym (append_assoc a b z))
 
--- an item begins at its first token
+-- If the next token has the rank of an item, that item begins here.
 starts_at : (at : ℕ) (k : TokenKind) {r : ℕ} {xs : List (Terminal ℕ)} (z : List (Terminal ℕ)) → xs ≡ lexeme_of at k ∷ z → kind_rank k ≡ r → Starts r xs
 starts_at at k {r = r} z here is = subst (λ y. Starts r y) (sym here) (rank_of at k ∙ is)
 
--- the token of an operator
+-- The token of a relation is the same whatever its index.
 relation_mark_lexeme : (o : Relation) (i : ℕ) (z : List (Terminal ℕ)) → lexeme_of i (relation_mark o) ∷ z ≡ Mark (relation_mark o) ∷ z
 relation_mark_lexeme relation.Equal i z = refl
 relation_mark_lexeme relation.NotEqual i z = refl
@@ -59,13 +59,14 @@ multiply_mark_lexeme multiply_operator.Divide i z = refl
 multiply_mark_lexeme multiply_operator.Modulo i z = refl
 multiply_mark_lexeme multiply_operator.And i z = refl
 
--- reads an operator and its right side
+-- The descent reads an item that is an operator and its right side.
 read_operator : {i : Item} {s : Sort} {room : ℕ} {ts : List Token} {at : ℕ} (j k : TokenKind) → j ≡ k → ((z : List (Terminal ℕ)) → lexeme_of at k ∷ z ≡ Mark k ∷ z) → chosen (item i) room (Mark k ∷ rest ts (at + 1)) ≡ operation s room (Mark k ∷ rest ts (at + 1)) → rest ts at ≡ lexeme_of at j ∷ rest ts (at + 1) → ReadAs (node (item i) room ∷ []) (node s room ∷ []) ts at (at + 1)
 read_operator {s = s} {room = room} {ts = ts} {at = at} j k is mark c here = read_led (node s room ∷ []) c (subst (λ y. rest ts at ≡ lexeme_of at y ∷ rest ts (at + 1)) is here ∙ mark (rest ts (at + 1)))
 
--- expression = simple [relation simple]
+-- Lemmas on expressions: `simple [relation simple]`.
 
--- the first token of a tree, even if other tokens come after the next one
+-- If a tree was read, its tokens begin with the same token as before, even if other tokens follow
+-- the next token.
 pub head_at : {s : Sort} {room : ℕ} {ts : List Token} {m n : ℕ} (c : Tree ℕ s) → Taken c room ts m n → (w : List (Terminal ℕ)) → SameHead (rest ts n) w → SameHead (rest ts m) (spell c ++ w)
 head_at {ts = ts} {n = n} c q w h = subst (λ y. SameHead y (spell c ++ w)) (sym q.spelled) (head_following (spell c) (rest ts n) w h)
 
@@ -110,9 +111,9 @@ comparison_fails_right {room = room} {ts = ts} {at = at} k o is here q = record 
   fails = fails_following {qs = node simple room ∷ []} (read_operator k (relation_mark o) is (relation_mark_lexeme o at) refl here) here (comparison_right room (lexeme_of at k)) q;
 }
 
--- simple = [sign] term {operator term}
+-- Lemmas on simple expressions: `[sign] term {operator term}`.
 
--- the production of a simple expression that doesn't begin with a sign
+-- If the tokens don't begin with a sign, the production of a simple expression begins with a term.
 pub chosen_unsigned : (room : ℕ) (w : List (Terminal ℕ)) → Unsigned w → chosen simple room w ≡ parts (node term room ∷ node (items addend) room ∷ [])
 chosen_unsigned room (Mark (kind.Symbol symbol.Plus) ∷ w) u = absurd (u.plus w refl)
 chosen_unsigned room (Mark (kind.Symbol symbol.Minus) ∷ w) u = absurd (u.minus w refl)
@@ -168,7 +169,7 @@ addend_fails_term {room = room} {ts = ts} {at = at} k o is here q = record {
   fails = fails_following {qs = node term room ∷ []} (read_operator k (add_mark o) is (add_mark_lexeme o at) refl here) here (addend_term room (lexeme_of at k)) q;
 }
 
--- term = factor {operator factor}
+-- Lemmas on terms: `factor {operator factor}`.
 
 product_only : {room : ℕ} {ts : List Token} {m n : ℕ} {at : ℕ} (a : Tree ℕ factor) (c : Tree ℕ (items multiplier)) → Taken a room ts at m → Taken c room ts m n → (u : Tree ℕ term) (z w : List (Terminal ℕ)) → SameHead (rest ts n) w → Stops 2 z → spell u ++ z ≡ (spell a ++ spell c) ++ w → (u ≡ product a c) × (z ≡ w)
 product_only a c p q (product b d) z w h s e =
@@ -242,7 +243,7 @@ taken_multiplies {ts = ts} {at = at} {n = n} k o a is here p = record {
   forward = omega (arith, p.forward);
 }
 
--- factor = identifier selector | integer | "(" expression ")" | "~" factor
+-- Lemmas on factors: `identifier selector | integer | "(" expression ")" | "~" factor`.
 
 integer_only : (i : ℕ) (u : Tree ℕ factor) (z w : List (Terminal ℕ)) → spell u ++ z ≡ Number i ∷ w → (u ≡ integer i) × (z ≡ w)
 integer_only i (designator n ss) z w e = absurd (name_not_number e)
@@ -299,14 +300,14 @@ negation_only a p (parenthesised t) z w h s e = absurd (paren_not_tilde e)
 pub taken_negation : {room inner : ℕ} {ts : List Token} {at n : ℕ} (a : Tree ℕ factor) → room ≡ inner + 1 → rest ts at ≡ Mark (kind.Symbol symbol.Not) ∷ rest ts (at + 1) → Taken a inner ts (at + 1) n → Taken (negation a) room ts at n
 taken_negation a level here p = record { spelled = here ∙ ap (λ y. Mark (kind.Symbol symbol.Not) ∷ y) p.spelled; shallow = omega (arith, p.shallow); only = negation_only a p; reads = by (negation_read level here) p.reads; within = p.within; forward = omega (arith, p.forward) }
 
--- no factor begins here
+-- If the next token can't begin a factor, no factor begins here.
 no_factor : (f : Option TokenKind) (i : ℕ) (room : ℕ) (w : List (Terminal ℕ)) → (f ≡ Some kind.Identifier → ⊥) → ((v : ℕ) → f ≡ Some (kind.Integer v) → ⊥) → (f ≡ Some (kind.Symbol symbol.LeftParen) → ⊥) → (f ≡ Some (kind.Symbol symbol.Not) → ⊥) → Begins (node factor room ∷ []) (lexeme_at i f ∷ w) → ⊥
 no_factor f i room w n m p q (designator k ss, z, e, l, s, b) = n (name_is f i k (head_of e))
 no_factor f i room w n m p q (integer k, z, e, l, s, b) = let v = number_is f i k (head_of e) in m v.0 v.1
 no_factor f i room w n m p q (parenthesised t, z, e, l, s, b) = p (mark_is f i (kind.Symbol symbol.LeftParen) (head_of e))
 no_factor f i room w n m p q (negation t, z, e, l, s, b) = q (mark_is f i (kind.Symbol symbol.Not) (head_of e))
 
--- a token other than this one has another kind
+-- A token that differs from this reserved word or symbol has another kind.
 pub other_kind : {k j : TokenKind} {ts : List Token} {at : ℕ} → Other (Mark k) ts at → rest ts at ≡ lexeme_of at j ∷ rest ts (at + 1) → Some j ≡ Some k → lexeme_of at k ≡ Mark k → ⊥
 other_kind {k = k} {j = j} {at = at} o here e is = o.differs (head_of (sym o.here ∙ here) ∙ (ap (lexeme_at at) e ∙ is))
 
@@ -321,7 +322,7 @@ chosen_no_factor (Some _) i room w n m p q = refl
 pub factor_missing : (f : Option TokenKind) (i : ℕ) (room : ℕ) {ts : List Token} → i ≤ length ts → rest ts i ≡ lexeme_at i f ∷ rest ts (i + 1) → (f ≡ Some kind.Identifier → ⊥) → ((v : ℕ) → f ≡ Some (kind.Integer v) → ⊥) → (f ≡ Some (kind.Symbol symbol.LeftParen) → ⊥) → (f ≡ Some (kind.Symbol symbol.Not) → ⊥) → FailsToRead (node factor room ∷ []) ts i (Syntax i expected.Expression)
 factor_missing f i room {ts} l here n m p q = fails_here (lexeme_at i f) l here (λ more. absent (ap (λ w. chosen factor room w) here ∙ chosen_no_factor f i room (rest ts (i + 1)) n m p q)) (λ u b. no_factor f i room u n m p q b)
 
--- a construct that is one level too deep
+-- Without a level left, no factor begins with `(`.
 pub factor_too_deep_open : (w : List (Terminal ℕ)) → Begins (node factor 0 ∷ []) (Mark (kind.Symbol symbol.LeftParen) ∷ w) → ⊥
 factor_too_deep_open w (designator k ss, z, e, l, s, b) = name_not_mark (sym e)
 factor_too_deep_open w (integer k, z, e, l, s, b) = number_not_mark (sym e)
@@ -334,7 +335,7 @@ factor_too_deep_not w (integer k, z, e, l, s, b) = number_not_mark (sym e)
 factor_too_deep_not w (parenthesised t, z, e, l, s, b) = omega arith
 factor_too_deep_not w (negation t, z, e, l, s, b) = omega arith
 
--- no level is left for the construct that this token opens
+-- If no level is left for the construct that the next token opens, the refusal `TooDeep` is right.
 pub too_deep_at_once : {ps : List Part} {ts : List Token} {at : ℕ} {x : Terminal ℕ} {e : ParseRefusal} → at < length ts → e ≡ TooDeep at → rest ts at ≡ x ∷ rest ts (at + 1) → StopsIn ps ts at (Deep at) → ((w : List (Terminal ℕ)) → Begins ps (x ∷ w) → ⊥) → FailsToRead ps ts at e
 too_deep_at_once {ps = ps} {ts = ts} {at = at} l is here reads f = subst (λ y. FailsToRead ps ts at y) (sym is) record { why = (omega arith, at_once here f); reads = reads }
 
@@ -368,7 +369,7 @@ negation_parts room inner d w (negation t, z, e, l, s, b) = (t, z, tail_of e, om
 pub factor_fails_negated : {room inner : ℕ} {ts : List Token} {at : ℕ} {e : ParseRefusal} → room ≡ inner + 1 → rest ts at ≡ Mark (kind.Symbol symbol.Not) ∷ rest ts (at + 1) → FailsToRead (node factor inner ∷ []) ts (at + 1) e → FailsToRead (node factor room ∷ []) ts at e
 factor_fails_negated {room = room} {inner = inner} d here q = fails_following {qs = node factor inner ∷ []} (negation_read d here) here (negation_parts room inner d) q
 
--- two lists that begin with the same token: their first tokens may be exchanged
+-- If two lists begin with the same token, their first tokens may be exchanged.
 heads : {xs w : List (Terminal ℕ)} {x y : Terminal ℕ} {a b : List (Terminal ℕ)} → xs ≡ x ∷ a → SameHead xs w → w ≡ y ∷ b → x ∷ b ≡ y ∷ b
 heads {b = b} p h q = ap (λ c. c ∷ b) (head_of (sym p ∙ h.is) ∙ head_of (sym h.alike ∙ q))
 
@@ -385,7 +386,7 @@ factor_fails_designator {room = room} {ts = ts} {at = at} here q =
 pub designator_fails_selector : {room : ℕ} {ts : List Token} {at m n : ℕ} {e : ParseRefusal} (ss : Tree ℕ (items selector)) → rest ts at ≡ Name at ∷ rest ts m → m ≡ at + 1 → Taking ss room ts m n → ItemFails selector room ts n e → FailsToRead (name ∷ node (items selector) room ∷ []) ts at e
 designator_fails_selector ss here l p q = fails_pass_name here l (taking_fails ss p q)
 
--- selector = "." identifier | "[" expression "]"
+-- Lemmas on selectors: `"." identifier | "[" expression "]"`.
 
 selector_head : (x : Terminal ℕ) → (x ≡ Mark (kind.Symbol symbol.Dot) → ⊥) → (x ≡ Mark (kind.Symbol symbol.LeftBracket) → ⊥) → rank x ≡ 1 → ⊥
 selector_head (Name n) p q e = omega arith

@@ -1,4 +1,4 @@
--- The descent reads the tokens of a tree, whatever it reads after them.
+-- Proves that the descent reads the tokens of a tree, whatever it reads after them.
 use Rattle.std.proofs.Common.{◌≡◌, ℕ, zero, suc, ◌+◌, ◌≤◌, true, false, Some, None, List, [], ◌∷◌, ◌++◌, length, refl, sym, ◌∙◌, ap, subst, arith, append_assoc, if◌then◌else◌}
 use Rattle.ob0_scan.specs.declared.lexeme.TokenKind.{TokenKind}
 use Rattle.ob0_scan.specs.declared.lexeme.TokenKind.TheVariants as kind
@@ -20,8 +20,8 @@ use Rattle.ob0_parse_descent.proofs.StatementParts.{chosen_empty}
 use Rattle.ob0_parse_descent.proofs.NamedStatements.{chosen_named, assigned_next, unassigned}
 use Rattle.ob0_parse_descent.proofs.DeclarationParts.{chosen_typed, section_next}
 
--- states that the descent reads the parts from these tokens and ends with this stop; the last token
--- is before index `e`
+-- Holds if the descent reads the parts from these tokens and ends with this stop. The last token is
+-- right before index `e`.
 abbrev pub Finishes : ℕ → Stop → List Part → List (Terminal ℕ) → Type 0
 Finishes e o ps w = (i : ℕ) → i + length w ≡ e → Descends ps i w o
 

@@ -1,4 +1,4 @@
--- Items that are read one after another.
+-- Proves facts about items that are read one after another.
 use Rattle.std.proofs.Common.{◌≡◌, ℕ, ◌≤◌, List, [], ◌∷◌, ◌++◌, length, refl, sym, ◌∙◌, ap, subst, arith, append_assoc, append-nil}
 use Rattle.ob0_scan.specs.declared.lexeme.Token.{Token}
 use Rattle.ob0_tree.specs.Lexeme.{Terminal}
@@ -15,13 +15,14 @@ pub appended : {N : Type 0} {i : Item} → Tree N (items i) → Tree N (items i)
 appended end us = us
 appended (more t ts) us = more t (appended ts us)
 
--- a tree of items begins with the items in `front`, and continues with others
+-- Holds if the tree of items `whole` begins with the items in `front`, and its other items,
+-- followed by z, spell w.
 pub record Ahead {i : Item} (whole front : Tree ℕ (items i)) (z w : List (Terminal ℕ)) : Type 0 where
   pub others : Tree ℕ (items i)
   pub is : whole ≡ appended front others
   pub spelled : spell others ++ z ≡ w
 
--- the items read so far, after which another one may come
+-- Holds if the tree t has the items read so far, after which another one may come.
 pub record Taking {i : Item} (t : Tree ℕ (items i)) (room : ℕ) (ts : List Token) (at next : ℕ) : Type 0 where
   pub spelled : rest ts at ≡ spell t ++ rest ts next
   pub shallow : nesting t ≤ room
@@ -47,7 +48,7 @@ unfolding appended
 appended_snoc f [] x us = refl
 appended_snoc f (y ∷ xs) x us = ap (more (f y)) (appended_snoc f xs x us)
 
--- adds one item
+-- If a tree of items continues with the item x, it begins with the items so far and x.
 ahead_more : {A : Type 0} {i : Item} (f : A → Tree ℕ (item i)) (xs : List A) (x : A) (u others : Tree ℕ (items i)) (z w : List (Terminal ℕ))
     → ((v : Tree ℕ (item i)) (y : List (Terminal ℕ)) → Stops (item_level i) y → spell v ++ y ≡ spell (f x) ++ w → (v ≡ f x) × (y ≡ w))
     → Stops (item_rank i) z → u ≡ appended (items_of f xs) others → spell others ++ z ≡ spell (f x) ++ w → Ahead u (items_of f (xs ++ (x ∷ []))) z w
@@ -80,7 +81,7 @@ ahead_done u t end z w absent is e = (is ∙ appended_end t, e)
 ahead_done {i = i} u t (more v vs) z w absent is e =
     absurd (absent (subst (λ y. Starts (item_rank i) y) (sym (append_assoc (spell v) (spell vs) z) ∙ e) (starts_item v (spell vs ++ z))))
 
--- no further item comes
+-- If no further item comes, the items read so far are the whole tree of items.
 pub taking_done : {i : Item} {room : ℕ} {ts : List Token} {at next : ℕ} (t : Tree ℕ (items i)) → Taking t room ts at next → ¬ Starts (item_rank i) (rest ts next) → Taken t room ts at next
 taking_done {i = i} {ts = ts} {next = next} t p absent = record {
   spelled = p.spelled;
@@ -103,7 +104,7 @@ next_item {i = i} room ts end u z w h s n is e = absurd (no_end (item_rank i) w 
 next_item {i = i} room ts (more v vs) u z w h s n is e =
     (v, spell vs ++ z, sym e ∙ append_assoc (spell v) (spell vs) z, inner ts v vs room (subst (λ a. nesting a ≤ room) is n), stops_items vs z (item_level i) (below i) s, tt)
 
--- the next item is refused
+-- If the next item is refused, the whole list of items is refused.
 pub taking_fails : {ps : List Part} {i : Item} {room : ℕ} {ts : List Token} {at next : ℕ} {e : ParseRefusal} (t : Tree ℕ (items i)) → Taking t room ts at next → ItemFails i room ts next e → FailsToRead (node (items i) room ∷ ps) ts at e
 taking_fails {ps = ps} {i = i} {room = room} {ts = ts} {at = at} {next = next} t p q = fails_by (λ o r more. p.reads.on o (ps ++ more) ((read_more q.is_here).on o (ps ++ more) (r (node (items i) room ∷ (ps ++ more))))) (λ after r. record {
   passed = spell t ++ r.passed;

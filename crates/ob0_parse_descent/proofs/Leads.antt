@@ -1,4 +1,4 @@
--- Ranks that belong to only one token: an item of such a rank begins exactly with that token.
+-- Proves that an item whose rank belongs to only one token begins exactly with that token.
 use Rattle.std.proofs.Common.{◌≡◌, ℕ, ◌+◌, ◌≤◌, ◌<◌, ◌++◌, ◌==◌, Option, Some, None, option_map, List, [], ◌∷◌, length, refl, sym, ◌∙◌, ap, subst, arith, if◌then◌else◌}
 use Rattle.ob0_scan.specs.declared.lexeme.TokenKind.{TokenKind}
 use Rattle.ob0_scan.specs.declared.lexeme.TokenKind.TheVariants as kind
@@ -17,7 +17,7 @@ use Rattle.ob0_parse_descent.specs.Descent.{IsPart, expected_part, expected_toke
 use Rattle.ob0_parse_descent.specs.declared.refusal.Expected.TheVariants as expected
 use Rattle.ob0_parse_descent.proofs.Refusals.{at_once, fails_by, in_name, in_token}
 
--- the only token of a rank
+-- Returns the only token of a rank, or None if several tokens or none have the rank.
 abbrev pub leader : ℕ → Option TokenKind
 leader r =
     if r == 5 then Some (kind.Symbol symbol.Comma) else
@@ -82,7 +82,7 @@ led (Number n) j e = cc
 led (Mark k) j e = ap Mark (leads k j e)
 led EndOfText j e = cc
 
--- no item begins here, because its only first token isn't here
+-- If the only token with an item's rank isn't here, no such item begins here.
 pub no_item : {k : TokenKind} {ts : List Token} {at : ℕ} (r : ℕ) → leader r ≡ Some k → Other (Mark k) ts at → ¬ Starts r (rest ts at)
 no_item {k = k} {ts = ts} {at = at} r is o s =
     let t : rank o.fault ≡ r = subst (λ y. Starts r y) o.here s in
@@ -91,11 +91,12 @@ no_item {k = k} {ts = ts} {at = at} r is o s =
 pub no_named_item : {ts : List Token} {at : ℕ} → NoName ts at → ¬ Starts 7 (rest ts at)
 no_named_item {ts = ts} {at = at} o s = o.ranked (subst (λ y. Starts 7 y) o.here s)
 
--- the first token is the fault
+-- If parts can't begin with the next token, and the descent over them stops there, they are refused
+-- at that token.
 pub fails_here : {ps : List Part} {ts : List Token} {at : ℕ} {e : Expected} (x : Terminal ℕ) → at ≤ length ts → rest ts at ≡ x ∷ rest ts (at + 1) → StopsIn ps ts at (Expects at e) → ((u : List (Terminal ℕ)) → Begins ps (x ∷ u) → ⊥) → FailsToRead ps ts at (Syntax at e)
 fails_here x l here reads never = record { why = (l, at_once here never); reads = reads }
 
--- a token other than this part
+-- If the next token isn't this part, the descent stops there and expects the part.
 pub stops_here : {p : Part} {x : Terminal ℕ} {e : Expected} (ts : List Token) (at : ℕ) → rest ts at ≡ x ∷ rest ts (at + 1) → ¬ IsPart p x → expected_part p ≡ Some e → StopsIn (p ∷ []) ts at (Expects at e)
 stops_here {p = p} {e = e} ts at here differs is more = subst (λ w. Descends (p ∷ more) at w (Expects at e)) (sym here) (other differs is)
 
@@ -111,7 +112,7 @@ some_none q = cc
 inside : {a b : ParseRefusal} → Some a ≡ Some b → a ≡ b
 inside q = cc
 
--- if a token is missing, all parts that begin with it are refused
+-- If a token is missing, all parts that begin with that token are refused.
 pub fails_in_token : {k : TokenKind} {ps : List Part} {ts : List Token} {at : ℕ} {e : ParseRefusal} → Other (Mark k) ts at × (Some e ≡ option_map (Syntax at) (expected_token k)) → FailsToRead (token k ∷ ps) ts at e
 fails_in_token {k = k} {ps = ps} {ts = ts} {at = at} {e = e} q = go (expected_token k) refl q.1
   where
@@ -170,7 +171,7 @@ positive (Mark (kind.Symbol symbol.RightParen)) = omega arith
 positive (Mark (kind.Symbol symbol.LeftBracket)) = omega arith
 positive (Mark (kind.Symbol symbol.RightBracket)) = omega arith
 
--- a construct of level 0 is never continued
+-- A construct of level 0 is never continued.
 pub stops_zero : (x : List (Terminal ℕ)) → Stops 0 x
 stops_zero [] = tt
 stops_zero (c ∷ x) = positive c

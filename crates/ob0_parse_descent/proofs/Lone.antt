@@ -1,4 +1,4 @@
--- Operands of one token that isn't continued.
+-- Proves facts about operands of one token that isn't continued.
 use Rattle.std.proofs.Common.{◌≡◌, false, is_some, ℕ, ◌+◌, ◌<◌, ◌≤◌, Option, Some, None, List, [], ◌∷◌, length, refl, sym, ap, ◌∙◌, subst, arith}
 use Rattle.ob0_scan.specs.declared.lexeme.TokenKind.{TokenKind}
 use Rattle.ob0_scan.specs.declared.lexeme.Token.{Token}
@@ -17,7 +17,7 @@ use Rattle.ob0_parse_descent.proofs.Expressions.{taken_compares, taken_no_item, 
 use Rattle.ob0_parse_descent.proofs.OneToken.{rank_of}
 use Rattle.ob0_parse_descent.proofs.Unique.{unsigned_term}
 
--- a token binds an operand at most as strongly as its rank says
+-- The strength with which a token binds is at most its rank.
 binding_ranked : (next : Option TokenKind) (i : ℕ) → binding next ≤ rank (lexeme_at i next)
 binding_ranked None i = omega arith
 binding_ranked (Some k) i = omega (arith, rank_of i k)
@@ -62,7 +62,8 @@ not_some : {A : Type 0} (o : Option A) → is_some o ≡ false → o ≡ None
 not_some None e = refl
 not_some (Some x) e = absurd (true_not_false e)
 
--- a simple expression without a sign and with one factor
+-- A simple expression without sign, further terms and further factors is the tree of its only
+-- factor.
 pub one_factor : (s : Simple) → is_some (out-Simple s).sign ≡ false → length (out-Term (out-Simple s).first).more.items ≡ 0 → length (out-Simple s).more.items ≡ 0 → simple_of s ≡ sum None (product (factor_of (out-Term (out-Simple s).first).first) end) end
 one_factor s unsigned factors terms =
     let f = out-Term (out-Simple s).first in

@@ -1,4 +1,4 @@
--- Assignments and calls, which begin alike.
+-- Proves that assignments and calls, which begin alike, are read and refused correctly.
 use Rattle.std.proofs.Common.{◌≡◌, ◌≢◌, ℕ, ◌+◌, Bool, true, false, List, [], ◌∷◌, ◌++◌, length, refl, sym, ◌∙◌, ap, subst, arith, append_assoc, eqb-true, if◌then◌else◌}
 use Rattle.ob0_scan.specs.declared.lexeme.TokenKind.{TokenKind}
 use Rattle.ob0_scan.specs.declared.lexeme.TokenKind.TheVariants as kind
@@ -22,7 +22,8 @@ use Rattle.ob0_tree.specs.View.{selector_of, items_of}
 use Rattle.ob0_parse_descent.proofs.StatementParts.{alike}
 use Rattle.ob0_parse_descent.proofs.Apart.{name_not_mark}
 
--- parts that begin after a tree, if the tree is this one
+-- Holds if the tokens begin with some tree of the sort of t, and with the parts ps after that tree
+-- in case it is t.
 record After {s : Sort} (t : Tree ℕ s) (w : List (Terminal ℕ)) (ps : List Part) : Type 0 where
   other : Tree ℕ s
   left : List (Terminal ℕ)
@@ -46,7 +47,7 @@ known {ps = ps} {qs = qs} {ts = ts} {next = next} {after = after} t p f r = reco
 fails_known : {s : Sort} {room : ℕ} {ps : List Part} {ts : List Token} {at next : ℕ} {e : ParseRefusal} (qs : List Part) → ((o : Stop) → StopsIn qs ts next o → StopsIn ps ts at o) → (t : Tree ℕ s) → Taken t room ts at next → ((w : List (Terminal ℕ)) → SameHead (rest ts next) w → Begins ps (spell t ++ w) → After t w qs) → FailsToRead qs ts next e → FailsToRead ps ts at e
 fails_known qs g t p f q = fails_by g (λ after r. known t p f r) q
 
--- the parts of an assignment or of a call, read after a name
+-- Proves that the descent reads the parts of an assignment or a call after the name.
 
 abbrev pub named_statement : ℕ → Bool → List Part
 named_statement room b = if b then name ∷ node (items selector) room ∷ sign symbol.Becomes ∷ node expression room ∷ [] else name ∷ node (maybe arguments) room ∷ []
@@ -67,7 +68,8 @@ pub assigned_next : (ss : Tree ℕ (items selector)) (z y : List (Terminal ℕ))
 assigned_next end z y e = ap is_assigned e
 assigned_next (more f fs) z y e = selector_next f fs z
 
--- reads the parts after the target of an assignment
+-- If a designator was read and the statement is an assignment, the descent reads the statement as
+-- `:=` and an expression after that designator.
 target_read : {room : ℕ} {ts : List Token} {at m : ℕ} (ss : Tree ℕ (items selector)) (x : ℕ) → Taken (designator x ss) room ts at m → is_assigned (spell ss ++ rest ts m) ≡ true → ReadAs (node statement room ∷ []) (token (kind.Symbol symbol.Becomes) ∷ node expression room ∷ []) ts at m
 target_read {room = room} ss x p is = by (read_made (chosen_named room true p.spelled is)) (record {
   on = λ o more r.
@@ -82,7 +84,8 @@ unassigned x w differs lacks = no_next selector (x ∷ w) lacks _ refl
 no_selector_next : (room : ℕ) (w : List (Terminal ℕ)) → ¬ Starts 1 w → chosen (items selector) room w ≡ parts []
 no_selector_next room w lacks = ap (λ b. if b then parts (node (item selector) room ∷ node (items selector) room ∷ []) else parts []) (no_next selector w lacks _ refl)
 
--- reads the parts after the name of a call
+-- If a name was read and neither `:=` nor a selector follows, the descent reads the statement as
+-- optional arguments after that name.
 call_read : {room : ℕ} {ts : List Token} {at m : ℕ} (x : ℕ) → Taken (designator x end) room ts at m → Other (Mark (kind.Symbol symbol.Becomes)) ts m → ¬ Starts 1 (rest ts m) → ReadAs (node statement room ∷ []) (node (maybe arguments) room ∷ []) ts at m
 call_read {room = room} {ts = ts} {at = at} {m = m} x p o lacks =
     let is : is_assigned (rest ts m) ≡ false = ap is_assigned o.here ∙ unassigned o.fault (rest ts (m + 1)) o.differs (λ s. lacks (subst (λ y. Starts 1 y) (sym o.here) s)) in
@@ -102,11 +105,12 @@ name_mark e = cc
 no_selectors : {x k : ℕ} {f : Tree ℕ (item selector)} {fs : Tree ℕ (items selector)} → designator k end ≡ designator x (more f fs) → ⊥
 no_selectors e = cc
 
--- an assignment and a call, each as a designator and the tokens after it
+-- If a designator and the tokens after it equal an assignment and some tokens, they equal the
+-- assignment's target, `:=`, its value and those tokens.
 assigned : {N : Type 0} (x k : N) (ss rs : Tree N (items selector)) (v : Tree N expression) (z w : List (Terminal N)) → spell (designator x ss) ++ w ≡ spell (assigns k rs v) ++ z → spell (designator k rs) ++ (Mark (kind.Symbol symbol.Becomes) ∷ (spell v ++ z)) ≡ spell (designator x ss) ++ w
 assigned x k ss rs v z w e = sym (e ∙ ap (λ y. Name k ∷ y) (append_assoc (spell rs) (Mark (kind.Symbol symbol.Becomes) ∷ spell v) z))
 
--- the value of an assignment is refused
+-- Proves that an assignment is refused if its value is refused.
 
 abbrev pub value_parts : ℕ → List Part
 value_parts room = token (kind.Symbol symbol.Becomes) ∷ node expression room ∷ []
@@ -139,7 +143,7 @@ following_value room x ss here w h (calls k a, z, e, n, s, b) = record {
 pub assignment_fails_value : {room : ℕ} {ts : List Token} {at m : ℕ} {e : ParseRefusal} (ss : Tree ℕ (items selector)) (x : ℕ) → Taken (designator x ss) room ts at m → rest ts m ≡ Mark (kind.Symbol symbol.Becomes) ∷ rest ts (m + 1) → FailsToRead (node expression room ∷ []) ts (m + 1) e → FailsToRead (node statement room ∷ []) ts at e
 assignment_fails_value {room = room} ss x p here q = fails_known (value_parts room) (λ o r more. (target_read ss x p (assigned_next ss _ _ here)).on o more (r more)) (designator x ss) p (λ w h b. following_value room x ss here w h b) (fails_pass_token here refl q)
 
--- `:=` is missing after selectors
+-- Proves that a statement is refused if `:=` is missing after selectors.
 
 following_selectors : (room x : ℕ) (f : Tree ℕ (item selector)) (fs : Tree ℕ (items selector)) (w : List (Terminal ℕ)) → Begins (node statement room ∷ []) (spell (designator x (more f fs)) ++ w) → After (designator x (more f fs)) w (token (kind.Symbol symbol.Becomes) ∷ [])
 following_selectors room x f fs w (empty, z, e, n, s, b) = absurd (not_at z _ _ 8 (sym e) (omega arith) s)
@@ -164,7 +168,7 @@ following_selectors room x f fs w (calls k a, z, e, n, s, b) = record {
 pub becomes_missing : {room : ℕ} {ts : List Token} {at m : ℕ} (x : ℕ) (f : Tree ℕ (item selector)) (fs : Tree ℕ (items selector)) → Taken (designator x (more f fs)) room ts at m → Other (Mark (kind.Symbol symbol.Becomes)) ts m → FailsToRead (node statement room ∷ []) ts at (Syntax m (expected.Symbol symbol.Becomes))
 becomes_missing {room = room} {ts = ts} {m = m} x f fs p o = fails_known (token (kind.Symbol symbol.Becomes) ∷ []) (λ s r following. (target_read (more f fs) x p (selector_next f fs (rest ts m))).on s following (r (node expression room ∷ following))) (designator x (more f fs)) p (λ w h b. following_selectors room x f fs w b) (fails_token refl o)
 
--- the arguments of a call are refused
+-- Proves that a call is refused if its arguments are refused.
 
 following_call : (room x : ℕ) (ss : Tree ℕ (items selector)) (ts : List Token) (m : ℕ) → Other (Mark (kind.Symbol symbol.Becomes)) ts m → (w : List (Terminal ℕ)) → SameHead (rest ts m) w → Begins (node statement room ∷ []) (spell (designator x ss) ++ w) → After (designator x ss) w (node (maybe arguments) room ∷ [])
 following_call room x ss ts m o w h (empty, z, e, n, s, b) = absurd (not_at z _ _ 8 (sym e) (omega arith) s)
@@ -190,7 +194,7 @@ pub call_fails : {room : ℕ} {ts : List Token} {at m : ℕ} {e : ParseRefusal} 
 call_fails {room = room} {ts = ts} {m = m} x [] l p o q = fails_known (node (maybe arguments) room ∷ []) (λ s r following. (call_read x p.0 o p.1).on s following (r following)) (designator x end) p.0 (λ w h b. following_call room x end ts m o w h b) (fails_maybe q)
 call_fails x (s ∷ ss) l p o q = absurd (omega arith)
 
--- the name or its selectors are refused
+-- Proves that an assignment or a call is refused if its name or its selectors are refused.
 
 target_parts : (room i : ℕ) (xs w y : List (Terminal ℕ)) → xs ≡ Name i ∷ y → SameHead xs w → Begins (node statement room ∷ []) w → Begins (name ∷ node (items selector) room ∷ []) w
 target_parts room i xs w y here h (empty, z, e, n, s, b) = absurd (not_at z _ _ 8 (sym e ∙ h.alike) (omega (arith, ap rank (head_of (sym here ∙ h.is)))) s)
@@ -207,7 +211,7 @@ starts_next : (w : List (Terminal ℕ)) → is_next selector w ≡ true → Star
 starts_next [] e = true_not_false (sym e)
 starts_next (x ∷ w) e = eqb-true (rank x) 1 e
 
--- if selectors are refused, a selector begins here
+-- If the descent stops in selectors, a selector begins here.
 no_selector_stops : {i : ℕ} {w : List (Terminal ℕ)} {o : Stop} → Descends [] i w o → Descends (token (kind.Symbol symbol.Dot) ∷ []) i w o → ¬ Starts 1 w → ⊥
 no_selector_stops done (taken is r) lacks = lacks (ap rank is)
 
@@ -223,7 +227,7 @@ pub named_fails : {room : ℕ} {ts : List Token} {at : ℕ} {e : ParseRefusal} �
 named_fails {room = room} {ts = ts} {at = at} here q =
     fails_by (λ o r. named_reads room ts at here o r _ refl) (λ after r. select (λ w h b. target_parts room at (rest ts at) w (rest ts (at + 1)) here h b) r) q
 
--- reading assignments and calls
+-- Proves that assignments and calls are read correctly.
 
 calls_only : {room : ℕ} {ts : List Token} {at m n : ℕ} (i : ℕ) (a : Tree ℕ (maybe arguments)) → Taken (designator i end) room ts at m → Other (Mark (kind.Symbol symbol.Becomes)) ts m → Taken a room ts m n → (u : Tree ℕ statement) (z w : List (Terminal ℕ)) → SameHead (rest ts n) w → Stops 8 z → spell u ++ z ≡ Name i ∷ (spell a ++ w) → (u ≡ calls i a) × (z ≡ w)
 calls_only i a p o q empty z w h s e = absurd (not_at z _ _ 8 e (omega arith) s)

@@ -1,4 +1,4 @@
--- A token follows from its kind, and its kind from the token.
+-- Proves that a token follows from its kind, and its kind from the token.
 use Rattle.std.proofs.Common.{◌≡◌, ℕ, Option, Some, None, List, [], ◌∷◌, refl}
 use Rattle.ob0_scan.specs.declared.lexeme.TokenKind.{TokenKind}
 use Rattle.ob0_scan.specs.declared.lexeme.TokenKind.TheVariants as kind

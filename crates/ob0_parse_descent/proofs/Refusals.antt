@@ -1,4 +1,4 @@
--- The refusal of a part implies the refusal of the whole.
+-- Proves that the refusal of a part implies the refusal of the whole.
 use Rattle.std.proofs.Common.{◌≡◌, ℕ, ◌+◌, List, [], ◌∷◌, ◌++◌, refl, sym, ◌∙◌, ap, subst, arith, append_assoc}
 use Rattle.ob0_scan.specs.declared.lexeme.TokenKind.{TokenKind}
 use Rattle.ob0_scan.specs.declared.lexeme.Token.{Token}
@@ -24,7 +24,7 @@ starts_alike xs w n h p =
 pub starts_back : (xs w : List (Terminal ℕ)) (n : ℕ) → SameHead xs w → Starts n w → Starts n xs
 starts_back xs w n h p = starts_alike w xs n record { head = h.head; following = h.other; other = h.following; is = h.alike; alike = h.is } p
 
--- a token that begins an item doesn't end it
+-- A token that begins an item doesn't end it.
 pub no_end : {N : Type 0} (n : ℕ) (x : List (Terminal N)) → Starts n x → Stops n x → ⊥
 no_end n [] p q = p
 no_end n (c ∷ x) p q = omega arith
@@ -36,8 +36,8 @@ head_following (c ∷ a) x w h = record { head = c; following = a ++ x; other = 
 pub refused_head : (ps : List Part) (xs after unseen : List (Terminal ℕ)) → (r : Refused ps xs after) → SameHead xs (r.passed ++ (r.fault ∷ unseen))
 refused_head ps xs after unseen r = subst (λ z. SameHead z (r.passed ++ (r.fault ∷ unseen))) (sym r.here) (passed_head r.passed after unseen r.fault)
 
--- A refusal of the parts qs is a refusal of the parts ps if each list with the same first token
--- that begins with ps also begins with qs.
+-- A refusal of the parts qs is a refusal of the parts ps, if each list with the same first token
+-- that begins with ps begins with qs.
 pub select : {ps qs : List Part} {xs after : List (Terminal ℕ)} → ((w : List (Terminal ℕ)) → SameHead xs w → Begins ps w → Begins qs w) → Refused qs xs after → Refused ps xs after
 select {ps = ps} {qs = qs} {xs = xs} {after = after} f r = record {
   passed = r.passed;
@@ -46,7 +46,7 @@ select {ps = ps} {qs = qs} {xs = xs} {after = after} f r = record {
   never = λ unseen b. r.never unseen (f (r.passed ++ (r.fault ∷ unseen)) (refused_head qs xs after unseen r) b);
 }
 
--- the first token is the fault
+-- If the parts can't begin with the first token, they are refused at that token.
 pub at_once : {ps : List Part} {x : Terminal ℕ} {xs after : List (Terminal ℕ)} → xs ≡ x ∷ after → ((u : List (Terminal ℕ)) → Begins ps (x ∷ u) → ⊥) → Refused ps xs after
 at_once {x = x} e f = record { passed = []; fault = x; here = e; never = f }
 
@@ -81,7 +81,7 @@ pass_node {s = s} {ps = ps} {ts = ts} {next = next} {after = after} t p r = reco
       r.never unseen (subst (λ y. Begins ps y) alike.1 b.5);
 }
 
--- a refusal of the first part
+-- If a construct is refused, all parts that begin with that construct are refused.
 pub in_node : {s : Sort} {room : ℕ} {ps : List Part} {xs after : List (Terminal ℕ)} → Refused (node s room ∷ []) xs after → Refused (node s room ∷ ps) xs after
 in_node r = select (λ w h b. (b.0, b.1, b.2, b.3, b.4, tt)) r
 
@@ -104,7 +104,7 @@ stops_by ps qs ts a b Memory g r = tt
 pub fails_by : {ps qs : List Part} {ts : List Token} {a b : ℕ} {e : ParseRefusal} → ((o : Stop) → StopsIn ps ts a o → StopsIn qs ts b o) → ((after : List (Terminal ℕ)) → Refused ps (rest ts a) after → Refused qs (rest ts b) after) → FailsToRead ps ts a e → FailsToRead qs ts b e
 fails_by {ps = ps} {qs = qs} {ts = ts} {a = a} {b = b} {e = e} g f r = record { why = why_by ts a b e f r; reads = stops_by ps qs ts a b e g r.reads }
 
--- The same for the result of a parser function.
+-- Proves that the results of parser functions are refused in the same way.
 
 pub fails_weaken : {ps qs : List Part} {ts : List Token} {at : ℕ} {e : ParseRefusal} → ReadAs ps qs ts at at → ((w : List (Terminal ℕ)) → SameHead (rest ts at) w → Begins ps w → Begins qs w) → FailsToRead qs ts at e → FailsToRead ps ts at e
 fails_weaken g f q = fails_by (λ o r more. g.on o more (r more)) (λ after r. select f r) q
@@ -129,11 +129,13 @@ following x e f r = record {
   never = λ unseen b. r.never unseen (f (r.passed ++ (r.fault ∷ unseen)) b);
 }
 
--- the first token is read, and determines the parts after it
+-- If the first token is read and determines the parts after it, a refusal of these parts is a
+-- refusal of the whole.
 pub fails_following : {ps qs : List Part} {x : Terminal ℕ} {ts : List Token} {at next : ℕ} {e : ParseRefusal} → ReadAs ps qs ts at next → rest ts at ≡ x ∷ rest ts next → ((w : List (Terminal ℕ)) → Begins ps (x ∷ w) → Begins qs w) → FailsToRead qs ts next e → FailsToRead ps ts at e
 fails_following {x = x} g h f q = fails_by (λ o r more. g.on o more (r more)) (λ after r. following x h f r) q
 
--- an optional item is refused if the next token begins an item that is refused
+-- If the next token begins an optional item, the parts that begin with the optional item begin with
+-- that item.
 maybe_only : {i : Item} (room : ℕ) (ps : List Part) (w : List (Terminal ℕ)) → Starts (item_rank i) w → Begins (node (maybe i) room ∷ ps) w → Begins (node (item i) room ∷ []) w
 maybe_only {i = i} room ps w h (none, z, e, n, p, b) = absurd (no_end (item_rank i) w h (subst (λ y. Stops (item_rank i) y) (sym e) p))
 maybe_only {i = i} room ps w h (one t, z, e, n, p, b) =
@@ -151,10 +153,11 @@ following_alike {qs = qs} x {xs} {z} {after} e f r = record {
   never = λ unseen b. r.never unseen (f (r.passed ++ (r.fault ∷ unseen)) (refused_head qs z after unseen r) b);
 }
 
--- the same if the next token also determines the parts
+-- If the first token and the next one determine the parts after the first token, a refusal of these
+-- parts is a refusal of the whole.
 pub fails_following_alike : {ps qs : List Part} {x : Terminal ℕ} {ts : List Token} {at next : ℕ} {e : ParseRefusal} → ReadAs ps qs ts at next → rest ts at ≡ x ∷ rest ts next → ((w : List (Terminal ℕ)) → SameHead (rest ts next) w → Begins ps (x ∷ w) → Begins qs w) → FailsToRead qs ts next e → FailsToRead ps ts at e
 fails_following_alike {x = x} g h f q = fails_by (λ o r more. g.on o more (r more)) (λ after r. following_alike x h f r) q
 
--- two parts are refused together with the parts after them
+-- If two constructs are refused, they are refused together with the parts after them.
 pub fails_in_both : {s r : Sort} {room deep : ℕ} {ps : List Part} {ts : List Token} {at : ℕ} {e : ParseRefusal} → FailsToRead (node s room ∷ node r deep ∷ []) ts at e → FailsToRead (node s room ∷ node r deep ∷ ps) ts at e
 fails_in_both {ps = ps} q = fails_by (λ o x more. x (ps ++ more)) (λ after x. select (λ w h b. (b.0, b.1, b.2, b.3, b.4, (b.5.0, b.5.1, b.5.2, b.5.3, b.5.4, tt))) x) q

@@ -1,4 +1,4 @@
--- The tree of a sequence of statements, from a list of them.
+-- Proves that a list of statements that was read is a sequence of statements.
 use Rattle.std.proofs.Common.{ℕ, List, sym, subst}
 use Rattle.ob0_scan.specs.declared.lexeme.Token.{Token}
 use Rattle.ob0_tree.specs.declared.tree.Statement.{Statement}

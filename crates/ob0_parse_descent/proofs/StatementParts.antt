@@ -1,4 +1,4 @@
--- Statements: reading them and refusing them.
+-- Proves that statements are read and refused correctly.
 use Rattle.std.proofs.Common.{◌≡◌, ◌≢◌, ℕ, ◌+◌, ◌<◌, List, [], ◌∷◌, ◌++◌, length, refl, sym, ◌∙◌, ap, subst, arith, append_assoc}
 use Rattle.ob0_scan.specs.declared.lexeme.TokenKind.{TokenKind}
 use Rattle.ob0_scan.specs.declared.lexeme.TokenKind.TheVariants as kind
@@ -18,11 +18,11 @@ use Rattle.ob0_parse_descent.proofs.Refusals.{fails_weaken, fails_following}
 use Rattle.ob0_parse_descent.proofs.Expressions.{joined, head_at, too_deep_at_once}
 use Rattle.ob0_parse_descent.proofs.Apart.{name_not_mark}
 
--- two lists begin with the same token
+-- If two lists begin with the same token, their first tokens are equal.
 pub alike : {xs w : List (Terminal ℕ)} {x y : Terminal ℕ} {a b : List (Terminal ℕ)} → SameHead xs w → xs ≡ x ∷ a → w ≡ y ∷ b → x ≡ y
 alike h p q = head_of (sym p ∙ h.is) ∙ head_of (sym h.alike ∙ q)
 
--- sequence = statement {";" statement}
+-- Lemmas on sequences: `statement {";" statement}`.
 
 runs_only : {room : ℕ} {ts : List Token} {at m n : ℕ} (a : Tree ℕ statement) (c : Tree ℕ (items further_statement)) → Taken a room ts at m → Taken c room ts m n → (u : Tree ℕ sequence) (z w : List (Terminal ℕ)) → SameHead (rest ts n) w → Stops 9 z → spell u ++ z ≡ (spell a ++ spell c) ++ w → (u ≡ runs a c) × (z ≡ w)
 runs_only a c p q (runs b d) z w h s e =
@@ -39,7 +39,7 @@ runs_parts room w (runs a c, z, e, n, p, b) = (a, spell c ++ z, e ∙ append_ass
 pub sequence_fails : {room : ℕ} {ts : List Token} {at : ℕ} {e : ParseRefusal} → FailsToRead (node statement room ∷ node (items further_statement) room ∷ []) ts at e → FailsToRead (node sequence room ∷ []) ts at e
 sequence_fails {room = room} q = fails_weaken {qs = node statement room ∷ node (items further_statement) room ∷ []} (read_made refl) (λ w h b. runs_parts room w b) q
 
--- the empty statement
+-- Lemmas on the empty statement.
 
 empty_only : {ts : List Token} {at : ℕ} → NoName ts at → Other (Mark (kind.Reserved reserved.If)) ts at → Other (Mark (kind.Reserved reserved.While)) ts at → Other (Mark (kind.Reserved reserved.Repeat)) ts at → (u : Tree ℕ statement) (z w : List (Terminal ℕ)) → SameHead (rest ts at) w → Stops 8 z → spell u ++ z ≡ w → (u ≡ empty) × (z ≡ w)
 empty_only unnamed i l r empty z w h s e = (refl, e)
@@ -68,7 +68,8 @@ taken_empty {room = room} {ts = ts} {at = at} unnamed i l r =
       forward = omega arith;
     }
 
--- if = IF expression THEN sequence {ELSIF expression THEN sequence} [ELSE sequence] END
+-- Lemmas on IF statements: `IF expression THEN sequence {ELSIF expression THEN sequence} [ELSE
+-- sequence] END`.
 
 abbrev pub branches_following : ℕ → List Part
 branches_following inner = node expression inner ∷ token (kind.Reserved reserved.Then) ∷ node sequence inner ∷ node (items elsif_part) inner ∷ node (maybe else_part) inner ∷ token (kind.Reserved reserved.End) ∷ []
@@ -119,7 +120,7 @@ branches_parts room inner d w (branches c t es l, z, e, n, s, b) = (
 pub branches_fail : {room inner : ℕ} {ts : List Token} {at : ℕ} {e : ParseRefusal} → room ≡ inner + 1 → rest ts at ≡ Mark (kind.Reserved reserved.If) ∷ rest ts (at + 1) → FailsToRead (branches_following inner) ts (at + 1) e → FailsToRead (node statement room ∷ []) ts at e
 branches_fail {room = room} {inner = inner} d here q = fails_following {qs = branches_following inner} (read_opened inner branches_following refl d here) here (branches_parts room inner d) q
 
--- elsif = ELSIF expression THEN sequence
+-- Lemmas on ELSIF parts: `ELSIF expression THEN sequence`.
 
 elsif_only : {room : ℕ} {ts : List Token} {n k : ℕ} (c : Tree ℕ expression) (t : Tree ℕ sequence) → Taken t room ts n k → (u : Tree ℕ (item elsif_part)) (z w : List (Terminal ℕ)) → SameHead (rest ts k) w → Stops 9 z → spell u ++ z ≡ Mark (kind.Reserved reserved.Elsif) ∷ ((spell c ++ (Mark (kind.Reserved reserved.Then) ∷ spell t)) ++ w) → (u ≡ elsif_branch c t) × (z ≡ w)
 elsif_only c t q (elsif_branch d v) z w h s e =
@@ -149,7 +150,7 @@ elsif_fails {room = room} here q = record {
   fails = fails_following {qs = elsif_following room} (read_led (elsif_following room) refl here) here (elsif_parts room) q;
 }
 
--- while = WHILE expression DO sequence END
+-- Lemmas on WHILE statements: `WHILE expression DO sequence END`.
 
 abbrev pub while_following : ℕ → List Part
 while_following inner = node expression inner ∷ token (kind.Reserved reserved.Do) ∷ node sequence inner ∷ token (kind.Reserved reserved.End) ∷ []
@@ -182,7 +183,7 @@ while_parts room inner d w (while_loop c t, z, e, n, s, b) = (
 pub while_fails : {room inner : ℕ} {ts : List Token} {at : ℕ} {e : ParseRefusal} → room ≡ inner + 1 → rest ts at ≡ Mark (kind.Reserved reserved.While) ∷ rest ts (at + 1) → FailsToRead (while_following inner) ts (at + 1) e → FailsToRead (node statement room ∷ []) ts at e
 while_fails {room = room} {inner = inner} d here q = fails_following {qs = while_following inner} (read_opened inner while_following refl d here) here (while_parts room inner d) q
 
--- repeat = REPEAT sequence UNTIL expression
+-- Lemmas on REPEAT statements: `REPEAT sequence UNTIL expression`.
 
 repeat_only : {room : ℕ} {ts : List Token} {n k : ℕ} (t : Tree ℕ sequence) (c : Tree ℕ expression) → Taken c room ts n k → (u : Tree ℕ statement) (z w : List (Terminal ℕ)) → SameHead (rest ts k) w → Stops 8 z → spell u ++ z ≡ Mark (kind.Reserved reserved.Repeat) ∷ ((spell t ++ (Mark (kind.Reserved reserved.Until) ∷ spell c)) ++ w) → (u ≡ repeat_loop t c) × (z ≡ w)
 repeat_only t c q empty z w h s e = absurd (not_at z _ _ 8 e (omega arith) s)
@@ -226,7 +227,7 @@ repeat_parts room inner d w (repeat_loop t c, z, e, n, s, b) = (
 pub repeat_fails : {room inner : ℕ} {ts : List Token} {at : ℕ} {e : ParseRefusal} → room ≡ inner + 1 → rest ts at ≡ Mark (kind.Reserved reserved.Repeat) ∷ rest ts (at + 1) → FailsToRead (repeat_following inner) ts (at + 1) e → FailsToRead (node statement room ∷ []) ts at e
 repeat_fails {room = room} {inner = inner} d here q = fails_following {qs = repeat_following inner} (read_opened inner repeat_following refl d here) here (repeat_parts room inner d) q
 
--- no level is left for the construct that this word opens
+-- If no level is left for the construct that this word opens, the refusal `TooDeep` is right.
 pub too_deep : {ts : List Token} {at room : ℕ} {e : ParseRefusal} (k : TokenKind) → ((w : List (Terminal ℕ)) → chosen statement 0 (Mark k ∷ w) ≡ descent.too_deep) → ((w : List (Terminal ℕ)) → Begins (node statement 0 ∷ []) (Mark k ∷ w) → ⊥) → at < length ts → (room ≡ 0) × (e ≡ TooDeep at) → rest ts at ≡ Mark k ∷ rest ts (at + 1) → FailsToRead (node statement room ∷ []) ts at e
 too_deep {ts = ts} {at = at} {e = e} k full never l o here = subst (λ r. FailsToRead (node statement r ∷ []) ts at e) (sym o.0) (too_deep_at_once l o.1 here (λ more. descent.deep (ap (λ w. chosen statement 0 w) here ∙ full (rest ts (at + 1)))) never)
 

@@ -1,4 +1,4 @@
--- Types: reading them and refusing them.
+-- Proves that types are read and refused correctly.
 use Rattle.std.proofs.Common.{◌≡◌, ◌≢◌, ℕ, ◌+◌, ◌<◌, ◌≤◌, List, [], ◌∷◌, ◌++◌, length, refl, sym, ◌∙◌, ap, subst, arith, append_assoc}
 use Rattle.ob0_scan.specs.declared.lexeme.TokenKind.TheVariants as kind
 use Rattle.ob0_scan.specs.declared.lexeme.Reserved.TheVariants as reserved
@@ -24,7 +24,7 @@ use Rattle.ob0_parse_descent.proofs.Apart.{name_not_mark, array_not_record}
 pub taken_named : {room : ℕ} {ts : List Token} {at : ℕ} → (rest ts at ≡ Name at ∷ rest ts (at + 1)) × (at < length ts) → Taken (named_type at) room ts at (at + 1)
 taken_named {room = room} {at = at} here = record { spelled = here.0; shallow = omega arith; only = λ u z w h s e. only_zero (named_type at) u z w refl s e; reads = by (read_made (ap (λ w. chosen written_type room w) here.0)) (read_name here.0 refl); within = omega (arith, here.1); forward = omega arith }
 
--- no type begins here
+-- If the next token is neither an identifier nor ARRAY nor RECORD, no type begins here.
 no_type : (room : ℕ) (ts : List Token) (at : ℕ) → NoName ts at → Other (Mark (kind.Reserved reserved.Array)) ts at → Other (Mark (kind.Reserved reserved.Record)) ts at → (x : Terminal ℕ) → rest ts at ≡ x ∷ rest ts (at + 1) → (u : List (Terminal ℕ)) → Begins (node written_type room ∷ []) (x ∷ u) → ⊥
 no_type room ts at unnamed a r x here u (named_type n, z, e, l, s, b) = unnamed.ranked (ap rank (head_of (sym unnamed.here ∙ here) ∙ head_of e))
 no_type room ts at unnamed a r x here u (array_type c t, z, e, l, s, b) = a.differs (head_of (sym a.here ∙ here) ∙ head_of e)
@@ -40,7 +40,7 @@ pub type_missing : {room : ℕ} {ts : List Token} {at : ℕ} → NoName ts at �
 type_missing {room = room} {ts = ts} {at = at} unnamed a r =
     fails_here unnamed.fault unnamed.within unnamed.here (λ more. absent (ap (λ w. chosen written_type room w) unnamed.here ∙ chosen_no_type room unnamed.fault (rest ts (at + 1)) unnamed.ranked (λ e. a.differs (head_of (sym a.here ∙ unnamed.here) ∙ e)) (λ e. r.differs (head_of (sym r.here ∙ unnamed.here) ∙ e)))) (no_type room ts at unnamed a r unnamed.fault unnamed.here)
 
--- ARRAY expression OF type
+-- Lemmas on array types: `ARRAY expression OF type`.
 
 abbrev pub array_following : ℕ → List Part
 array_following inner = node expression inner ∷ token (kind.Reserved reserved.Of) ∷ node written_type inner ∷ []
@@ -72,7 +72,7 @@ no_array w (record_type f fs, z, e, n, s, b) = omega arith
 pub array_too_deep : {ts : List Token} {at room : ℕ} {e : ParseRefusal} → at < length ts → (room ≡ 0) × (e ≡ TooDeep at) → rest ts at ≡ Mark (kind.Reserved reserved.Array) ∷ rest ts (at + 1) → FailsToRead (node written_type room ∷ []) ts at e
 array_too_deep {ts = ts} {at = at} {e = e} l o here = subst (λ r. FailsToRead (node written_type r ∷ []) ts at e) (sym o.0) (too_deep_at_once l o.1 here (λ more. deep (ap (λ w. chosen written_type 0 w) here)) no_array)
 
--- RECORD fields {";" fields} END
+-- Lemmas on record types: `RECORD fields {";" fields} END`.
 
 abbrev pub record_following : ℕ → List Part
 record_following inner = node fields inner ∷ node (items further_fields) inner ∷ token (kind.Reserved reserved.End) ∷ []
@@ -113,7 +113,7 @@ no_record w (record_type f fs, z, e, n, s, b) = omega arith
 pub record_too_deep : {ts : List Token} {at room : ℕ} {e : ParseRefusal} → at < length ts → (room ≡ 0) × (e ≡ TooDeep at) → rest ts at ≡ Mark (kind.Reserved reserved.Record) ∷ rest ts (at + 1) → FailsToRead (node written_type room ∷ []) ts at e
 record_too_deep {ts = ts} {at = at} {e = e} l o here = subst (λ r. FailsToRead (node written_type r ∷ []) ts at e) (sym o.0) (too_deep_at_once l o.1 here (λ more. deep (ap (λ w. chosen written_type 0 w) here)) no_record)
 
--- fields = [names ":" type]
+-- Lemmas on groups of fields: `[names ":" type]`.
 
 no_fields_only : {ts : List Token} {at : ℕ} → NoName ts at → (u : Tree ℕ fields) (z w : List (Terminal ℕ)) → SameHead (rest ts at) w → Stops 7 z → spell u ++ z ≡ w → (u ≡ no_fields) × (z ≡ w)
 no_fields_only unnamed no_fields z w h s e = (refl, e)
@@ -136,7 +136,7 @@ fields_only ns t (some_fields ms v) z w s e =
 abbrev pub typed_following : ℕ → List Part
 typed_following room = node names 0 ∷ token (kind.Symbol symbol.Colon) ∷ node written_type room ∷ []
 
--- names at the beginning of fields
+-- If the tokens begin with names, the production of fields begins with names.
 pub chosen_fields : {xs : List (Terminal ℕ)} (room : ℕ) (ns : Tree ℕ names) (z : List (Terminal ℕ)) → xs ≡ spell ns ++ z → chosen fields room xs ≡ parts (typed_following room)
 chosen_fields room (listed k us) z e = ap (λ w. chosen fields room w) e
 
@@ -150,7 +150,7 @@ taken_fields {room = room} {ts = ts} {m = m} ns t p following q = record {
   forward = omega (arith, p.forward, following.2, q.forward);
 }
 
--- names aren't nested
+-- A list of names has no nesting.
 pub unnested : (ns : Tree ℕ names) → nesting ns ≤ 0
 unnested (listed k us) = omega arith
 

@@ -1,4 +1,5 @@
--- A list of tokens begins with at most one tree of a sort that the tokens after it don't continue.
+-- Proves that a list of tokens begins with at most one tree of a sort that the tokens after it
+-- don't continue.
 use Rattle.std.proofs.Common.{◌≡◌, ℕ, ◌<◌, ◌≤◌, Option, Some, None, List, [], ◌∷◌, ◌++◌, refl, sym, ◌∙◌, ap, subst, arith, append_assoc}
 use Rattle.ob0_scan.specs.declared.lexeme.TokenKind.{TokenKind}
 use Rattle.ob0_scan.specs.declared.lexeme.TokenKind.TheVariants as kind
@@ -36,7 +37,7 @@ multiply_rank multiply_operator.Divide = refl
 multiply_rank multiply_operator.Modulo = refl
 multiply_rank multiply_operator.And = refl
 
--- an item begins with a token of the item's rank
+-- Holds if the tokens begin with a token of the item's rank.
 pub record Headed {N : Type 0} (i : Item) (tokens : List (Terminal N)) : Type 0 where
   pub head : Terminal N
   pub tail : List (Terminal N)
@@ -69,7 +70,7 @@ headed (declares_variables vs) x = record { head = Mark (kind.Reserved reserved.
 headed (declares_procedure n fs b c) x = record { head = Mark (kind.Reserved reserved.Procedure); tail = Name n ∷ ((spell fs ++ (Mark (kind.Symbol symbol.Semicolon) ∷ (spell b ++ (Mark (kind.Reserved reserved.End) ∷ Name c ∷ mark (kind.Symbol symbol.Semicolon))))) ++ x); is = refl; ranked = refl }
 headed (begins s) x = record { head = Mark (kind.Reserved reserved.Begin); tail = spell s ++ x; is = refl; ranked = refl }
 
--- no item begins with tokens that don't continue a list of such items
+-- If the tokens don't continue a list of items, no such item begins with them.
 pub not_here : {N : Type 0} {i : Item} (t : Tree N (item i)) (x y : List (Terminal N)) → Stops (item_rank i) x → x ≡ spell t ++ y → ⊥
 not_here {i = i} t x y p e =
     let h = headed t y in
@@ -105,7 +106,7 @@ below addend = omega arith
 below comparison = omega arith
 below _ = omega arith
 
--- a factor doesn't begin with a sign
+-- Holds if the tokens don't begin with a sign, as for every factor.
 pub record Unsigned {N : Type 0} (tokens : List (Terminal N)) : Type 0 where
   pub plus : (z : List (Terminal N)) → tokens ≡ Mark (kind.Symbol symbol.Plus) ∷ z → ⊥
   pub minus : (z : List (Terminal N)) → tokens ≡ Mark (kind.Symbol symbol.Minus) ∷ z → ⊥
@@ -119,7 +120,7 @@ unsigned (negation f) x = record { plus = λ z e. cc; minus = λ z e. cc }
 pub unsigned_term : {N : Type 0} (t : Tree N term) (x : List (Terminal N)) → Unsigned (spell t ++ x)
 unsigned_term (product f fs) x = subst Unsigned (sym (append_assoc (spell f) (spell fs) x)) (unsigned f (spell fs ++ x))
 
--- two signs before unsigned tokens are the same
+-- Two optional signs before unsigned tokens are the same if the whole lists are.
 pub same_signs : {N : Type 0} (r s : Option Sign) (x y : List (Terminal N)) → Unsigned x → Unsigned y → sign_marks r ++ x ≡ sign_marks s ++ y → (r ≡ s) × (x ≡ y)
 same_signs None None x y p q e = (refl, e)
 same_signs None (Some sign.Plus) x y p q e = absurd (p.plus y e)
@@ -168,7 +169,7 @@ mark_of e = cc
 pub name_of : {N : Type 0} {a b : N} {x y : List (Terminal N)} → Name a ∷ x ≡ Name b ∷ y → a ≡ b
 name_of e = cc
 
--- tokens that end a construct don't begin with a token of the construct's level or below
+-- If tokens end a construct, their first token has a rank above the construct's level.
 pub not_at : {N : Type 0} (x : List (Terminal N)) (c : Terminal N) (z : List (Terminal N)) (n : ℕ) → x ≡ c ∷ z → rank c ≤ n → Stops n x → ⊥
 not_at x c z n e l p =
     let s : Stops n (c ∷ z) = subst (λ y. Stops n y) e p in
@@ -189,7 +190,7 @@ stops_variables vs ps x p = subst (λ z. Stops 13 z) (sym (append_assoc (spell v
 pub stops_types : {N : Type 0} (ts : Tree N (maybe type_names)) (vs : Tree N (maybe variables)) (ps : Tree N (items procedure)) (x : List (Terminal N)) → Stops 15 x → Stops 12 ((spell ts ++ (spell vs ++ spell ps)) ++ x)
 stops_types ts vs ps x p = subst (λ z. Stops 12 z) (sym (append_assoc (spell ts) (spell vs ++ spell ps) x)) (stops_maybe ts ((spell vs ++ spell ps) ++ x) 12 (omega arith) (stops_variables vs ps x p))
 
--- no call begins like an assignment
+-- The selectors of an assignment, followed by `:=`, can't be the arguments of a call.
 pub no_call : {N : Type 0} (ss : Tree N (items selector)) (a : Tree N (maybe arguments)) (z y : List (Terminal N)) → Stops 8 y → spell ss ++ (Mark (kind.Symbol symbol.Becomes) ∷ z) ≡ spell a ++ y → ⊥
 no_call end none z y q e = not_at y _ _ 8 (sym e) (omega arith) q
 no_call end (one no_arguments) z y q e = becomes_not_paren e
@@ -201,7 +202,7 @@ no_call (more (index n) ss) none z y q e = not_at y _ _ 8 (sym e) (omega arith) 
 no_call (more (index n) ss) (one no_arguments) z y q e = bracket_not_paren e
 no_call (more (index n) ss) (one (some_arguments b bs)) z y q e = bracket_not_paren e
 
--- an expression doesn't begin with `)`
+-- No factor begins with `)`.
 no_factor : {N : Type 0} (f : Tree N factor) (x z : List (Terminal N)) → spell f ++ x ≡ Mark (kind.Symbol symbol.RightParen) ∷ z → ⊥
 no_factor (designator n ss) x z e = cc
 no_factor (integer n) x z e = cc
@@ -238,8 +239,8 @@ not_repeat e = cc
 pub while_not_repeat : (kind.Reserved reserved.While) ≡ (kind.Reserved reserved.Repeat) → ⊥
 while_not_repeat e = cc
 
--- States that no other tree of the same sort begins these tokens, if the tokens after both trees
--- end them.
+-- Holds if no other tree of the same sort begins these tokens, provided that the tokens after both
+-- trees end them.
 pub record Unique {N : Type 0} {s : Sort} (t : Tree N s) : Type 0 where
   pub only : (u : Tree N s) (x y : List (Terminal N)) → Stops (level s) x → Stops (level s) y → spell t ++ x ≡ spell u ++ y → (t ≡ u) × (x ≡ y)
 

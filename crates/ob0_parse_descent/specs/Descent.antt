@@ -1,7 +1,6 @@
--- The predictive descent: how a text is read, from left to right, by the productions of the grammar
--- (LANGUAGE.md, Grammar and Syntax faults). The next token, or the next two, determine the
--- production of each construct. So the token at which the descent stops, and what is expected
--- there, depend only on the tokens.
+-- Defines the predictive descent, which reads a text from left to right by the productions of the grammar (LANGUAGE.md,
+-- Grammar and Syntax faults). The next token, or the next two, determine the production of each construct. So the token
+-- at which the descent stops, and the construct or token expected there, depend only on the tokens.
 -- Rule: docs/LANGUAGE.md, Grammar 1, Nesting and limits 1, Syntax faults.
 use Rattle.std.specs.Prelude.{◌≡◌, ◌==◌, ℕ, zero, suc, ◌+◌, List, [], ◌∷◌, ◌++◌, Option, Some, None, Bool, true, false, drop, if◌then◌else◌}
 use Rattle.ob0_scan.specs.declared.lexeme.TokenKind.{TokenKind}
@@ -17,8 +16,8 @@ use Rattle.ob0_parse_descent.specs.Follow.{rank, item_rank, opens_expression}
 use Rattle.ob0_parse_descent.specs.declared.refusal.Expected.{Expected}
 use Rattle.ob0_parse_descent.specs.declared.refusal.Expected.TheVariants as expected
 
--- A part of a production: a reserved word or symbol, an identifier, an integer, a tree with at most
--- this nesting, or the end of the text.
+-- A part of a production: a reserved word or symbol, an identifier, an integer, a construct with at most this many
+-- levels of nesting, or the end of the text.
 pub data Part : Type 0 where
   token : TokenKind → Part
   name : Part
@@ -28,57 +27,57 @@ pub data Part : Type 0 where
 
 -- ---- the choice of a production
 
--- The choice that the next tokens determine for a construct: the parts of a production (none if the
--- construct is omitted), or an error.
+-- The choice that the next tokens determine for a construct: the parts of a production (none if the construct is
+-- omitted), or an error.
 pub data Choice : Type 0 where
   parts : List Part → Choice
   missing : Expected → Choice
   too_deep : Choice
 
--- a reserved word as a part
+-- Returns the part that is this reserved word.
 abbrev pub word : Reserved → Part
 word w = token (kind.Reserved w)
 
--- a symbol as a part
+-- Returns the part that is this symbol.
 abbrev pub sign : Symbol → Part
 sign s = token (kind.Symbol s)
 
--- The parts inside a construct that counts for nesting, with one level less (LANGUAGE.md, Nesting
--- and limits); too deep if no level is left.
+-- Returns the parts of a construct that counts for nesting, whose inside has one level less (LANGUAGE.md, Nesting and
+-- limits). If no level is left, the construct is too deep.
 abbrev pub nested : ℕ → (ℕ → List Part) → Choice
 nested zero inside = too_deep
 nested (suc room) inside = parts (inside room)
 
--- true if an item begins with the next token
+-- Returns true if the item begins with the next token.
 abbrev pub is_next : Item → List (Terminal ℕ) → Bool
 is_next i [] = false
 is_next i (x ∷ tokens) = rank x == item_rank i
 
--- true if an expression begins with the next token
+-- Returns true if an expression begins with the next token.
 abbrev pub is_expression_next : List (Terminal ℕ) → Bool
 is_expression_next (Name n ∷ tokens) = true
 is_expression_next (Number n ∷ tokens) = true
 is_expression_next (Mark k ∷ tokens) = opens_expression (Some k)
 is_expression_next tokens = false
 
--- true if a section of formal parameters begins with the next token
+-- Returns true if a section of formal parameters begins with the next token.
 abbrev pub is_section_next : List (Terminal ℕ) → Bool
 is_section_next (Name n ∷ tokens) = true
 is_section_next (Mark (kind.Reserved reserved.Var) ∷ tokens) = true
 is_section_next tokens = false
 
--- True if a statement is an assignment: after its identifier comes `:=` or a selector.
+-- Returns true if a statement is an assignment: `:=` or a selector follows its identifier, which precedes these tokens.
 abbrev pub is_assigned : List (Terminal ℕ) → Bool
 is_assigned (Mark (kind.Symbol symbol.Becomes) ∷ tokens) = true
 is_assigned tokens = is_next selector tokens
 
--- the next operator and its right side
+-- Returns the parts of an operator and its right side.
 abbrev pub operation : Sort → ℕ → List (Terminal ℕ) → Choice
 operation s room (Mark k ∷ tokens) = parts (token k ∷ node s room ∷ [])
 operation s room tokens = missing expected.Expression
 
--- The production of an item. It is used only if the next token begins the item, so its value for
--- other tokens doesn't matter.
+-- Returns the production of an item. It is used only if the next token begins the item, so its value for other tokens
+-- doesn't matter.
 abbrev pub chosen_item : Item → (room : ℕ) → List (Terminal ℕ) → Choice
 -- selector = "[" expression "]" | "." ident
 chosen_item selector room (Mark (kind.Symbol symbol.LeftBracket) ∷ tokens) =
@@ -154,8 +153,8 @@ chosen_item procedure room tokens =
 -- [BEGIN sequence]
 chosen_item body room tokens = parts (word reserved.Begin ∷ node sequence room ∷ [])
 
--- the production of a construct (no part of a list of names counts for nesting, so such a list
--- needs no level)
+-- Returns the production of a construct that the next tokens determine. No part of a list of names counts for nesting,
+-- so such a list needs no level.
 abbrev pub chosen : Sort → (room : ℕ) → List (Terminal ℕ) → Choice
 chosen (item i) room tokens = chosen_item i room tokens
 chosen (items i) room tokens =
@@ -262,7 +261,7 @@ chosen module_text room tokens =
 
 -- ---- the stop
 
--- states that a token is this part
+-- Holds if the token is this part.
 abbrev pub IsPart : Part → Terminal ℕ → Type 0
 IsPart (token k) x = x ≡ Mark k
 IsPart name x = (n : ℕ) × (x ≡ Name n)
@@ -270,15 +269,15 @@ IsPart number x = (n : ℕ) × (x ≡ Number n)
 IsPart (node s room) x = ⊥
 IsPart finish x = x ≡ EndOfText
 
--- a reserved word or symbol that is expected, or None for a token of another kind
+-- Returns this reserved word or symbol as an expected token, or None for an identifier or an integer.
 abbrev pub expected_token : TokenKind → Option Expected
 expected_token (kind.Reserved word) = Some (expected.Word word)
 expected_token (kind.Symbol symbol) = Some (expected.Symbol symbol)
 expected_token kind.Identifier = None
 expected_token (kind.Integer value) = None
 
--- What is expected if this part is missing. It is None for an integer, which is a part only if the
--- next token is one, and for a construct, whose own parts are read instead.
+-- Returns the token or construct that is expected if this part is missing. It is None for an integer, which is a part
+-- only if the next token is one. It is also None for a construct, whose own parts are read instead.
 abbrev pub expected_part : Part → Option Expected
 expected_part (token k) = expected_token k
 expected_part name = Some expected.Identifier
@@ -286,41 +285,40 @@ expected_part number = None
 expected_part (node s room) = None
 expected_part finish = Some expected.EndOfText
 
--- the end of the descent: everything was read, or something else is expected at the token with this
--- index, or that token opens a construct that is nested too deep
+-- The end of the descent: everything was read, or something else is expected at the token with this index, or that
+-- token opens a construct that is nested too deep.
 pub data Stop : Type 0 where
   Done : Stop
   Expects : ℕ → Expected → Stop
   Deep : ℕ → Stop
 
--- States that the descent reads these parts from these tokens, the first of which has index i, and
--- ends with this stop.
+-- Holds if the descent reads these parts from these tokens, the first of which has index i, and ends with this stop.
 pub data Descends : List Part → ℕ → List (Terminal ℕ) → Stop → Type 0 where
-  -- no part is left
+  -- No part is left.
   done : {i : ℕ} {tokens : List (Terminal ℕ)} → Descends [] i tokens Done
-  -- the next token is the next part
+  -- The next token is the next part.
   taken : {p : Part} {ps : List Part} {i : ℕ} {x : Terminal ℕ} {tokens : List (Terminal ℕ)}
       {o : Stop}
       → IsPart p x → Descends ps (i + 1) tokens o → Descends (p ∷ ps) i (x ∷ tokens) o
-  -- the next token isn't the next part
+  -- The next token isn't the next part.
   other : {p : Part} {ps : List Part} {i : ℕ} {x : Terminal ℕ} {tokens : List (Terminal ℕ)}
       {e : Expected}
       → ¬ IsPart p x → expected_part p ≡ Some e → Descends (p ∷ ps) i (x ∷ tokens) (Expects i e)
-  -- the next part is a construct, so its own parts are read first
+  -- The next part is a construct, so its own parts are read first.
   made : {s : Sort} {room : ℕ} {ps : List Part} {i : ℕ} {tokens : List (Terminal ℕ)} {o : Stop}
       (qs : List Part)
       → chosen s room tokens ≡ parts qs
       → Descends (qs ++ ps) i tokens o
       → Descends (node s room ∷ ps) i tokens o
-  -- the construct can't begin with the next token
+  -- The construct can't begin with the next token.
   absent : {s : Sort} {room : ℕ} {ps : List Part} {i : ℕ} {tokens : List (Terminal ℕ)}
       {e : Expected}
       → chosen s room tokens ≡ missing e → Descends (node s room ∷ ps) i tokens (Expects i e)
-  -- the construct opens a level of nesting, but no level is left
+  -- The construct opens a level of nesting, but no level is left.
   deep : {s : Sort} {room : ℕ} {ps : List Part} {i : ℕ} {tokens : List (Terminal ℕ)}
       → chosen s room tokens ≡ too_deep → Descends (node s room ∷ ps) i tokens (Deep i)
 
--- the descent has only one stop
+-- Holds if the descent through any parts and tokens has only one stop.
 abbrev pub OneStop : Type 0
 OneStop =
     (ps : List Part) (i : ℕ) (tokens : List (Terminal ℕ)) (a b : Stop)
@@ -328,7 +326,7 @@ OneStop =
     → Descends ps i tokens b
     → a ≡ b
 
--- states that the descent through a whole text, whose end counts as a token, ends with this stop;
--- the nesting may be at most 100
+-- Holds if the descent through a whole text, whose end counts as a token, ends with this stop. At most 100 levels of
+-- nesting are allowed.
 abbrev pub DescendsText : List (Terminal ℕ) → Stop → Type 0
 DescendsText tokens o = Descends (node module_text max_nesting ∷ finish ∷ []) 0 tokens o

@@ -1,11 +1,11 @@
--- The text that follows `expected` in the message of a syntax error.
+-- Defines the text that follows `expected` in the message of a syntax error.
 -- Rule: docs/LANGUAGE.md, Syntax faults 2.
 use Rattle.std.specs.Prelude.{ℕ, List, codes}
 use Rattle.ob0_scan.specs.Classes.{reserved_text, symbol_text}
 use Rattle.ob0_parse_descent.specs.declared.refusal.Expected.{Expected}
 use Rattle.ob0_parse_descent.specs.declared.refusal.Expected.TheVariants as expected
 
--- the text for what is expected; a reserved word or symbol is spelled out
+-- Returns the text for an expected token or construct. A reserved word or symbol is spelled out.
 abbrev pub expected_text : Expected → List ℕ
 expected_text expected.Type = codes "type"
 expected_text expected.Expression = codes "expression"

@@ -1,5 +1,5 @@
--- The contracts of the parser's functions: which tokens a function read, or why no tree begins with
--- them.
+-- Defines the contracts of the parser's functions: which tokens a function has read, or why no tree
+-- begins with them.
 -- Rule: none; for contracts of the parser.
 use Rattle.std.specs.declared.vec.Vec.{Vec}
 use Rattle.std.specs.declared.alloc.Global.{Global}
@@ -24,17 +24,17 @@ use Rattle.ob0_parse_descent.specs.declared.refusal.Expected.TheVariants as expe
 use Rattle.ob0_parse_descent.specs.declared.refusal.ParseRefusal.{ParseRefusal}
 use Rattle.ob0_parse_descent.specs.declared.refusal.ParseRefusal.TheVariants.{Syntax, TooDeep, Memory}
 
--- the terminal for the token at an index; None stands for the end of the text
+-- Returns the token at the index i as a tree spells it. None stands for the end of the text.
 abbrev pub lexeme_at : ℕ → Option TokenKind → Terminal ℕ
 lexeme_at i None = EndOfText
 lexeme_at i (Some k) = lexeme_of i k
 
--- the tokens from an index to the end of the text
+-- Returns the tokens from an index to the end of the text, which counts as a token.
 unfoldable pub rest : List Token → ℕ → List (Terminal ℕ)
 rest ts i = drop i (lexemes ts)
 
--- states that the tokens begin with these parts, and that each tree among the parts ends before a
--- token that can't continue it
+-- Holds if the tokens begin with these parts, and each tree among the parts ends before a token
+-- that can't continue it.
 abbrev pub Begins : List Part → List (Terminal ℕ) → Type 0
 Begins [] w = Unit {0}
 Begins (token k ∷ ps) w = (z : List (Terminal ℕ)) × (w ≡ Mark k ∷ z) × Begins ps z
@@ -49,15 +49,15 @@ Begins (node s room ∷ ps) w =
     × Begins ps z
 Begins (finish ∷ ps) w = (z : List (Terminal ℕ)) × (w ≡ EndOfText ∷ z) × Begins ps z
 
--- States that the tokens before `after` can't be the beginning of these parts, whatever follows
--- them.
+-- Holds if the tokens before `after` can't be the beginning of these parts, whatever follows those
+-- tokens.
 pub record Refused (parts : List Part) (tokens after : List (Terminal ℕ)) : Type 0 where
   pub passed : List (Terminal ℕ)
   pub fault : Terminal ℕ
   pub here : tokens ≡ passed ++ (fault ∷ after)
   pub never : (unseen : List (Terminal ℕ)) → Begins parts (passed ++ (fault ∷ unseen)) → ⊥
 
--- states that two lists begin with the same token
+-- Holds if both lists begin with the same token.
 pub record SameHead (xs w : List (Terminal ℕ)) : Type 0 where
   pub head : Terminal ℕ
   pub following : List (Terminal ℕ)
@@ -65,15 +65,15 @@ pub record SameHead (xs w : List (Terminal ℕ)) : Type 0 where
   pub is : xs ≡ head ∷ following
   pub alike : w ≡ head ∷ other
 
--- States that the descent reads the parts `ps` from index `at` if it reads the parts `following`
+-- Holds if the descent reads the parts `ps` from index `at` whenever it reads the parts `following`
 -- from index `next`. The stop is the same, whatever parts come after them.
 pub record ReadAs (ps following : List Part) (ts : List Token) (at next : ℕ) : Type 0 where
   pub on : (o : Stop) (more : List Part)
       → Descends (following ++ more) next (rest ts next) o
       → Descends (ps ++ more) at (rest ts at) o
 
--- States that the tokens from one index to another are the tokens of this tree. Together with the
--- next token they allow no other tree here.
+-- Holds if the tokens from index `at` to index `next` are the tokens of this tree, whose nesting is
+-- at most `room`. Together with the next token they allow no other tree of the same sort at `at`.
 pub record Taken {s : Sort} (t : Tree ℕ s) (room : ℕ) (ts : List Token) (at next : ℕ) : Type 0 where
   pub spelled : rest ts at ≡ spell t ++ rest ts next
   pub shallow : nesting t ≤ room
@@ -86,29 +86,32 @@ pub record Taken {s : Sort} (t : Tree ℕ s) (room : ℕ) (ts : List Token) (at 
   pub within : next ≤ length ts
   pub forward : at ≤ next
 
--- States why something was refused. Nothing is stated about running out of memory.
+-- Holds if the refusal is right: the tokens up to its index can't be the beginning of these parts.
+-- Nothing is stated about a failed allocation.
 abbrev pub Why : List Part → List Token → ℕ → ParseRefusal → Type 0
 Why parts ts at (Syntax i expected) = (i ≤ length ts) × Refused parts (rest ts at) (rest ts (i + 1))
 Why parts ts at (TooDeep i) = (i ≤ length ts) × Refused parts (rest ts at) (rest ts (i + 1))
 Why parts ts at Memory = Unit {0}
 
--- states that the descent over the parts ends with this stop, whatever follows them
+-- Holds if the descent over the parts ends with this stop, whatever follows the parts.
 abbrev pub StopsIn : List Part → List Token → ℕ → Stop → Type 0
 StopsIn parts ts at o = (more : List Part) → Descends (parts ++ more) at (rest ts at) o
 
--- states that the descent over the parts ends with the stop that the refusal describes
+-- Holds if the descent over the parts ends with the stop that the refusal describes. Nothing is
+-- stated about a failed allocation.
 abbrev pub StopsBy : List Part → List Token → ℕ → ParseRefusal → Type 0
 StopsBy parts ts at (Syntax i expected) = StopsIn parts ts at (Expects i expected)
 StopsBy parts ts at (TooDeep i) = StopsIn parts ts at (Deep i)
 StopsBy parts ts at Memory = Unit {0}
 
--- states that no tree of these parts begins here, and that the descent over them stops as refused
+-- Holds if no tree of these parts begins at this index, and the descent over the parts stops as the
+-- refusal says.
 pub record FailsToRead
     (parts : List Part) (ts : List Token) (at : ℕ) (e : ParseRefusal) : Type 0 where
   pub why : Why parts ts at e
   pub reads : StopsBy parts ts at e
 
--- states that the result of a parser function is right for a construct that begins at a token
+-- Holds if the result of a parser function is right for a construct that begins at this index.
 abbrev pub Reads : {A : Type 0} {s : Sort}
     → (A → Tree ℕ s)
     → ℕ
@@ -119,62 +122,63 @@ abbrev pub Reads : {A : Type 0} {s : Sort}
 Reads view room ts at (Ok x) = Taken (view x.0) room ts at x.1
 Reads {s = s} view room ts at (Err e) = FailsToRead (node s room ∷ []) ts at e
 
--- states that the token at an index isn't x
+-- Holds if the token at this index isn't x.
 pub record Other (x : Terminal ℕ) (ts : List Token) (at : ℕ) : Type 0 where
   pub fault : Terminal ℕ
   pub here : rest ts at ≡ fault ∷ rest ts (at + 1)
   pub differs : fault ≢ x
   pub within : at ≤ length ts
 
--- states that the token at an index isn't an identifier
+-- Holds if the token at this index isn't an identifier.
 pub record NoName (ts : List Token) (at : ℕ) : Type 0 where
   pub fault : Terminal ℕ
   pub here : rest ts at ≡ fault ∷ rest ts (at + 1)
   pub ranked : rank fault ≢ 7
   pub within : at ≤ length ts
 
--- states that a test is right: true if this reserved word or symbol is at the index
+-- Holds if the truth value says whether this reserved word or symbol is at the index.
 abbrev pub TokenIs : TokenKind → List Token → ℕ → Bool → Type 0
 TokenIs k ts at true = (rest ts at ≡ Mark k ∷ rest ts (at + 1)) × (at < length ts)
 TokenIs k ts at false = Other (Mark k) ts at
 
--- states that a test is right: true if an identifier is at the index
+-- Holds if the truth value says whether an identifier is at the index.
 abbrev pub NameIs : List Token → ℕ → Bool → Type 0
 NameIs ts at true = (rest ts at ≡ Name at ∷ rest ts (at + 1)) × (at < length ts)
 NameIs ts at false = NoName ts at
 
--- States that the result is the index after this reserved word or symbol. If the token is another
--- one, the refusal says that this one is expected.
+-- Holds if the result is the index after this reserved word or symbol. If another token is at the
+-- index, the refusal says that this reserved word or symbol is expected.
 abbrev pub ReadsToken : TokenKind → List Token → ℕ → Result ℕ ParseRefusal → Type 0
 ReadsToken k ts at (Ok next) =
     (rest ts at ≡ Mark k ∷ rest ts next) × (at < length ts) × (next ≡ at + 1)
 ReadsToken k ts at (Err e) =
     Other (Mark k) ts at × (Some e ≡ option_map (Syntax at) (expected_token k))
 
--- States that the result is the identifier at this index and the index after it. If the token isn't
--- an identifier, the refusal says that one is expected.
+-- Holds if the result is the identifier at this index and the index after it. If another token is
+-- at the index, the refusal says that an identifier is expected.
 abbrev pub ReadsName : List Token → ℕ → Result (ℕ × ℕ) ParseRefusal → Type 0
 ReadsName ts at (Ok x) =
     (rest ts at ≡ Name at ∷ rest ts x.1) × (at < length ts) × (x.0 ≡ at) × (x.1 ≡ at + 1)
 ReadsName ts at (Err e) = NoName ts at × (e ≡ Syntax at expected.Identifier)
 
--- states that the result is one level less, or `TooDeep` if no level is left
+-- Holds if the result is one level less than `room`, or `TooDeep` if no level is left.
 abbrev pub Opens : ℕ → ℕ → Result ℕ ParseRefusal → Type 0
 Opens at room (Ok inner) = room ≡ inner + 1
 Opens at room (Err e) = (room ≡ 0) × (e ≡ TooDeep at)
 
--- states that a factor of one token is here, and that it isn't continued at this level
+-- Holds if a factor of one token is at this index, and the token after it continues nothing at this
+-- level.
 pub record IsLone (level : ℕ) (f : Tree ℕ factor) (ts : List Token) (at : ℕ) : Type 0 where
   pub taken : (room : ℕ) → Taken f room ts at (at + 1)
   pub stops : Stops level (rest ts (at + 1))
 
--- states that an item begins here and is refused
+-- Holds if an item begins at this index and is refused.
 pub record ItemFails
     (i : Item) (room : ℕ) (ts : List Token) (at : ℕ) (e : ParseRefusal) : Type 0 where
   pub is_here : Starts (item_rank i) (rest ts at)
   pub fails : FailsToRead (node (item i) room ∷ []) ts at e
 
--- states that the result of a parser function is right for an optional item
+-- Holds if the result of a parser function is right for an optional item.
 abbrev pub ReadsItem : {A : Type 0} {i : Item}
     → (A → Tree ℕ (item i))
     → ℕ
@@ -186,12 +190,13 @@ ReadsItem {i = i} view room ts at (Ok None) = ¬ Starts (item_rank i) (rest ts a
 ReadsItem view room ts at (Ok (Some x)) = Taken (view x.0) room ts at x.1 × (at < x.1)
 ReadsItem {i = i} view room ts at (Err e) = ItemFails i room ts at e
 
--- states that the first token isn't a sign
+-- Holds if the tokens don't begin with a sign.
 pub record Unsigned (w : List (Terminal ℕ)) : Type 0 where
   pub plus : (z : List (Terminal ℕ)) → w ≡ Mark (kind.Symbol symbol.Plus) ∷ z → ⊥
   pub minus : (z : List (Terminal ℕ)) → w ≡ Mark (kind.Symbol symbol.Minus) ∷ z → ⊥
 
--- states that `sign` is the sign at this index, or None if there is none
+-- Holds if `sign` is the sign at this index, or None if there is none, and `next` is the index
+-- after it.
 pub record SignTaken (ts : List Token) (at : ℕ) (sign : Option Sign) (next : ℕ) : Type 0 where
   pub spelled : rest ts at ≡ sign_marks sign ++ rest ts next
   pub forward : at ≤ next
@@ -199,21 +204,21 @@ pub record SignTaken (ts : List Token) (at : ℕ) (sign : Option Sign) (next : �
   pub unsigned : IfNone sign (Unsigned (rest ts at))
   pub counted : next ≡ at + length (sign_marks {N = ℕ} sign)
 
--- states that the result is a name with its selectors, taken as a factor, and that no selector
--- follows
+-- Holds if the result is a name with its selectors, read as a factor, and no further selector
+-- follows.
 abbrev pub ReadsDesignator : ℕ → List Token → ℕ → Result (Designator × ℕ) ParseRefusal → Type 0
 ReadsDesignator room ts at (Ok x) =
     Taken (designator x.0.name (items_of selector_of x.0.selectors.items)) room ts at x.1
     × ¬ Starts 1 (rest ts x.1)
 ReadsDesignator room ts at (Err e) = FailsToRead (name ∷ node (items selector) room ∷ []) ts at e
 
--- states that the operator is the one that the token is, or None if the token's rank isn't an
--- operator's
+-- Holds if the operator is the one that the token is. It is None if the token's rank isn't r, the
+-- rank of these operators.
 abbrev pub IsMarkOf : {A : Type 0} → (A → TokenKind) → ℕ → TokenKind → Option A → Type 0
 IsMarkOf mark r k (Some a) = k ≡ mark a
 IsMarkOf mark r k None = kind_rank k ≢ r
 
--- States that a list was read: its first element, then the further ones with separators between
+-- Holds if a list was read: its first element, then the further ones with the separators before
 -- them.
 pub record ListRead
     {A : Type 0} {s : Sort} {i : Item} (view : A → Tree ℕ s) (further : A → Tree ℕ (item i))
@@ -225,7 +230,7 @@ pub record ListRead
   pub head : Taken (view first) room ts at middle
   pub tail : Taken (items_of further others) room ts middle next
 
--- states that the result is a list of one or more elements
+-- Holds if the result is a list of one or more elements, or a refusal of such a list.
 abbrev pub ReadsList : {A : Type 0} {s : Sort} {i : Item}
     → (A → Tree ℕ s)
     → (A → Tree ℕ (item i))
@@ -238,7 +243,8 @@ ReadsList view further room ts at (Ok x) = ListRead view further x.0.items room 
 ReadsList {s = s} {i = i} view further room ts at (Err e) =
     FailsToRead (node s room ∷ node (items i) room ∷ []) ts at e
 
--- states that the result is a list of names and a type, with a colon between them
+-- Holds if the result is a list of names and a type with a colon between them, or a refusal of
+-- these parts.
 abbrev pub ReadsTyped : ℕ
     → List Token
     → ℕ
@@ -249,8 +255,7 @@ ReadsTyped room ts at (Err e) =
     FailsToRead (node names 0 ∷ token (kind.Symbol symbol.Colon) ∷ node written_type room ∷ []) ts
     at e
 
--- states that a test is right: true if formal parameters may begin here; otherwise only `)` may
--- come next
+-- Holds if the truth value says whether a section of formal parameters may begin at this index.
 abbrev pub SectionMayBegin : List Token → ℕ → Bool → Type 0
 SectionMayBegin ts at true =
     Other (Mark (kind.Symbol symbol.RightParen)) ts at × (is_section_next (rest ts at) ≡ true)

@@ -1,4 +1,4 @@
-//! Parsing of declarations and blocks.
+//! Parses declarations and blocks.
 
 ghost use Rattle.std.specs.Prelude.{◌≤◌, length};
 ghost use Rattle.ob0_tree.specs.View.{section_of, further_section_of, formals_of, constant_of, constants_of, constants_in, type_declaration_of, types_of, types_in, variable_of, variables_of, variables_in, body_of, block_of, procedure_of, procedures_in};
@@ -52,7 +52,7 @@ impl<'t> Parser<'t> {
         ))
     }
 
-    /// True if a section of formal parameters may begin at this token.
+    /// Returns whether a section of formal parameters may begin at this token.
     fn section_may_begin(&self, at: usize) -> bool
         requires { at ≤ length self.now.tokens.now }
         ensures { SectionMayBegin self.now.tokens.now at result }
@@ -63,7 +63,7 @@ impl<'t> Parser<'t> {
         self.at_word(at, Reserved::Var)
     }
 
-    /// Parses an optional `";" section`.
+    /// Parses an optional `";" section`. Returns None if no `;` comes next.
     fn further_section(&self, at: usize, room: u32) -> ParsedItem<Section>
         requires { at ≤ length self.now.tokens.now }
         ensures { ReadsItem further_section_of room self.now.tokens.now at result }
@@ -132,7 +132,8 @@ impl<'t> Parser<'t> {
         Ok((constants, next))
     }
 
-    /// Parses an optional `identifier "=" expression ";"`.
+    /// Parses an optional `identifier "=" expression ";"`. Returns None if no identifier comes
+    /// next.
     fn constant(&self, at: usize, room: u32) -> ParsedItem<Constant>
         requires { at ≤ length self.now.tokens.now }
         ensures { ReadsItem constant_of room self.now.tokens.now at result }
@@ -171,7 +172,7 @@ impl<'t> Parser<'t> {
         Ok((types, next))
     }
 
-    /// Parses an optional `identifier "=" type ";"`.
+    /// Parses an optional `identifier "=" type ";"`. Returns None if no identifier comes next.
     fn type_declaration(&self, at: usize, room: u32) -> ParsedItem<TypeDeclaration>
         requires { at ≤ length self.now.tokens.now }
         ensures { ReadsItem type_declaration_of room self.now.tokens.now at result }
@@ -210,7 +211,7 @@ impl<'t> Parser<'t> {
         Ok((variables, next))
     }
 
-    /// Parses an optional `names ":" type ";"`.
+    /// Parses an optional `names ":" type ";"`. Returns None if no identifier comes next.
     fn variable(&self, at: usize, room: u32) -> ParsedItem<Variables>
         requires { at ≤ length self.now.tokens.now }
         ensures { ReadsItem variable_of room self.now.tokens.now at result }
@@ -235,7 +236,7 @@ impl<'t> Parser<'t> {
         Ok((Some(statements), next))
     }
 
-    /// Parses declarations and an optional body.
+    /// Parses a block: declarations and an optional body.
     #[cycle(blocks)]
     fn block(&self, at: usize, room: u32) -> Parsed<Block>
         requires { at ≤ length self.now.tokens.now }
@@ -273,7 +274,8 @@ impl<'t> Parser<'t> {
         Ok((procedures, next))
     }
 
-    /// Parses an optional `PROCEDURE identifier [formals] ";" block END identifier ";"`.
+    /// Parses an optional `PROCEDURE identifier [formals] ";" block END identifier ";"`. Returns
+    /// None if PROCEDURE doesn't come next.
     #[cycle(blocks)]
     pub fn procedure(&self, at: usize, room: u32) -> ParsedItem<Procedure>
         requires { at ≤ length self.now.tokens.now }

@@ -1,6 +1,6 @@
-//! The descent parser: one function for each production of the grammar. Each function returns the
-//! tree that begins at a token, or the token at which the parser stops (docs/LANGUAGE.md, Grammar,
-//! Nesting and limits, Syntax faults).
+//! Parses by recursive descent, with one function for each production of the grammar. Each function
+//! returns the tree that begins at a token, or the token at which the parser stops
+//! (docs/LANGUAGE.md, Grammar, Nesting and limits, Syntax faults).
 #![tactic(auto)]
 
 mod declarations;

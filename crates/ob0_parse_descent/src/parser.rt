@@ -1,4 +1,4 @@
-//! Recursive descent, one function for each production. Each function takes the index of its first
+//! Parses names and expressions by recursive descent. Each function takes the index of its first
 //! token and the number of nesting levels that are left. It returns the tree and the index of the
 //! token after it.
 
@@ -41,7 +41,7 @@ pub type Parsed<T> = Result<(T, usize), ParseRefusal>;
 /// the refusal.
 pub type ParsedItem<T> = Result<Option<(T, usize)>, ParseRefusal>;
 
-/// The tokens to parse, and the allocator for the trees.
+/// The parser: the tokens to parse, and the allocator for the trees.
 #[derive(Clone, Copy)]
 pub struct Parser<'t> {
     pub alloc: Global,
@@ -64,7 +64,7 @@ impl<'t> Parser<'t> {
         }
     }
 
-    /// True if the token at `at` is this reserved word.
+    /// Returns whether the token at `at` is this reserved word.
     pub(crate) fn at_word(&self, at: usize, word: Reserved) -> bool
         requires { at ≤ length self.now.tokens.now }
         ensures { TokenIs (kind.Reserved word) self.now.tokens.now at result }
@@ -72,7 +72,7 @@ impl<'t> Parser<'t> {
         self.kind(at) == Some(TokenKind::Reserved(word))
     }
 
-    /// True if the token at `at` is this symbol.
+    /// Returns whether the token at `at` is this symbol.
     pub(crate) fn at_symbol(&self, at: usize, symbol: Symbol) -> bool
         requires { at ≤ length self.now.tokens.now }
         ensures { TokenIs (kind.Symbol symbol) self.now.tokens.now at result }
@@ -80,7 +80,8 @@ impl<'t> Parser<'t> {
         self.kind(at) == Some(TokenKind::Symbol(symbol))
     }
 
-    /// Returns the index after this reserved word, or a syntax error if the token is another one.
+    /// Returns the index after this reserved word. If another token is at `at`, returns a syntax
+    /// error.
     pub fn expect_word(&self, at: usize, word: Reserved) -> Result<usize, ParseRefusal>
         requires { at ≤ length self.now.tokens.now }
         ensures { ReadsToken (kind.Reserved word) self.now.tokens.now at result }
@@ -92,7 +93,7 @@ impl<'t> Parser<'t> {
         }
     }
 
-    /// Returns the index after this symbol, or a syntax error if the token is another one.
+    /// Returns the index after this symbol. If another token is at `at`, returns a syntax error.
     pub fn expect_symbol(&self, at: usize, symbol: Symbol) -> Result<usize, ParseRefusal>
         requires { at ≤ length self.now.tokens.now }
         ensures { ReadsToken (kind.Symbol symbol) self.now.tokens.now at result }
@@ -104,7 +105,8 @@ impl<'t> Parser<'t> {
         }
     }
 
-    /// Returns the token index of an identifier, or a syntax error if the token is another one.
+    /// Returns the index of the identifier at `at` and the index after it. If another token is at
+    /// `at`, returns a syntax error.
     pub fn identifier(&self, at: usize) -> Parsed<usize>
         requires { at ≤ length self.now.tokens.now }
         ensures { ReadsName self.now.tokens.now at result }
@@ -116,7 +118,7 @@ impl<'t> Parser<'t> {
         }
     }
 
-    /// True if the token at `at` is an identifier.
+    /// Returns whether the token at `at` is an identifier.
     pub(crate) fn at_name(&self, at: usize) -> bool
         requires { at ≤ length self.now.tokens.now }
         ensures { NameIs self.now.tokens.now at result }
@@ -124,7 +126,7 @@ impl<'t> Parser<'t> {
         self.kind(at) == Some(TokenKind::Identifier)
     }
 
-    /// Parses an optional `"," identifier`.
+    /// Parses an optional `"," identifier`. Returns None if no comma comes next.
     fn further_name(&self, at: usize) -> ParsedItem<usize>
         requires { at ≤ length self.now.tokens.now }
         ensures read { ReadsItem then_name 0 self.now.tokens.now at result }
@@ -152,7 +154,8 @@ impl<'t> Parser<'t> {
         Ok((Names { first, more }, next))
     }
 
-    /// Parses `simple [relation simple]`, directly if it is a single token.
+    /// Parses an expression, `simple [relation simple]`. An operand of a single token is made
+    /// directly.
     #[cycle(expressions)]
     #[inline(always)]
     pub(crate) fn expression(&self, at: usize, room: u32) -> Parsed<Expression>
@@ -165,7 +168,7 @@ impl<'t> Parser<'t> {
         Ok((Expression::Factor(factor), at + 1))
     }
 
-    /// Parses `simple [relation simple]`.
+    /// Parses an expression, `simple [relation simple]`, by its parts.
     #[cycle(expressions)]
     #[inline(never)]
     fn sides(&self, at: usize, room: u32) -> Parsed<Expression>
@@ -183,8 +186,8 @@ impl<'t> Parser<'t> {
         Ok((Expression::Compound(compound), end))
     }
 
-    /// Makes an expression from one side without a relation, in the compact form if the side is one
-    /// factor.
+    /// Returns the expression that consists of this side without a relation, in the compact form if
+    /// the side is one factor.
     #[inline(always)]
     fn lone_side(&self, side: Simple) -> Result<Expression, AllocError>
         ensures { IfOk result (λ e. expression_of e ≡ compares (simple_of side) none) }
@@ -217,8 +220,8 @@ impl<'t> Parser<'t> {
         Ok(Some((Comparison { relation, right }, next)))
     }
 
-    /// Returns a factor of one token, or None if the token after it binds at this level or more
-    /// strongly.
+    /// Returns the factor of one token at `at`. Returns None if that token is neither an identifier
+    /// nor an integer, or if the next token binds at this level or more strongly.
     #[inline(always)]
     fn lone(&self, at: usize, level: u8) -> Option<Factor>
         requires within { at ≤ length self.now.tokens.now }
@@ -247,7 +250,7 @@ impl<'t> Parser<'t> {
         }
     }
 
-    /// Parses a simple expression, directly if it is a single token.
+    /// Parses a simple expression. A single token is made directly.
     #[cycle(expressions)]
     #[inline(always)]
     fn side(&self, at: usize, room: u32) -> Parsed<Simple>
@@ -273,7 +276,7 @@ impl<'t> Parser<'t> {
         ))
     }
 
-    /// Parses a term, directly if it is a single token.
+    /// Parses a term. A single token is made directly.
     #[cycle(expressions)]
     #[inline(always)]
     fn summand(&self, at: usize, room: u32) -> Parsed<Term>
@@ -287,7 +290,7 @@ impl<'t> Parser<'t> {
         Ok((Term { first, more }, at + 1))
     }
 
-    /// Parses a factor, directly if it is a single token.
+    /// Parses a factor. A single token is made directly.
     #[cycle(expressions)]
     #[inline(always)]
     fn operand(&self, at: usize, room: u32) -> Parsed<Factor>
@@ -317,7 +320,7 @@ impl<'t> Parser<'t> {
         Ok((Simple { sign, first, more }, next))
     }
 
-    /// Returns the optional sign at this token, and the index after it.
+    /// Returns the sign at this token, or None, and the index after it.
     fn sign(&self, at: usize) -> (Option<Sign>, usize)
         requires { at ≤ length self.now.tokens.now }
         ensures { SignTaken self.now.tokens.now at result.0 result.1 }
@@ -440,7 +443,8 @@ impl<'t> Parser<'t> {
         Ok((Designator { name, selectors }, next))
     }
 
-    /// Parses an optional `"." identifier | "[" expression "]"`.
+    /// Parses an optional `"." identifier | "[" expression "]"`. Returns None if neither `.` nor
+    /// `[` comes next.
     #[cycle(expressions)]
     fn selector(&self, at: usize, room: u32) -> ParsedItem<Selector>
         requires { at ≤ length self.now.tokens.now }
@@ -460,7 +464,8 @@ impl<'t> Parser<'t> {
     }
 }
 
-/// Returns the strength with which a token binds the operand before it.
+/// Returns the strength with which the token `next` binds the operand before it. A smaller number
+/// binds more strongly.
 #[inline(always)]
 fn binding(next: Option<TokenKind>) -> u8
     ensures { result ≡ binding next }
@@ -522,15 +527,15 @@ fn multiply_operator_of(kind: TokenKind) -> Option<MultiplyOperator>
     }
 }
 
-/// Returns the refusal for a syntax error at this token.
+/// Returns the refusal for a syntax error at this token, where `expected` should be.
 pub fn missing<T>(token: usize, expected: Expected) -> Result<T, ParseRefusal>
     ensures { result ≡ Err (Syntax token expected) }
 {
     Err(ParseRefusal::Syntax { token, expected })
 }
 
-/// Returns the number of nesting levels left inside the construct that this token opens, or
-/// `TooDeep` if none was left.
+/// Returns the number of nesting levels left inside the construct that the token at `at` opens. If
+/// no level is left for that construct, returns `TooDeep`.
 pub(crate) fn levels_inside(at: usize, room: u32) -> Result<u32, ParseRefusal>
     ensures { Opens at room result }
 {

@@ -1,4 +1,4 @@
-//! The reasons why a text isn't a module by the grammar.
+//! Defines the reasons why a text isn't a module by the grammar.
 
 ghost use Rattle.std.specs.Prelude.{◌≡◌};
 ghost use Rattle.ob0_parse_descent.specs.declared.refusal.ParseRefusal.TheVariants.{Memory};
@@ -7,7 +7,7 @@ use ob0_scan::{Reserved, Symbol};
 use std::alloc::{AllocError, AllocFailed};
 use thiserror::Error;
 
-/// A token or construct that is expected at a syntax error.
+/// The token or construct that is expected at a syntax error.
 #[derive(Clone, Copy, PartialEq, Eq, Debug)]
 pub enum Expected {
     Type,
@@ -21,7 +21,7 @@ pub enum Expected {
 impl Expected {
     ghost use Rattle.ob0_parse_descent.specs.ExpectedText.{expected_text};
 
-    /// Returns the text that follows `expected` in the message.
+    /// Returns the text that follows `expected` in the message of a syntax error.
     pub fn text(self) -> &'static str
         ensures { result.now ≡ expected_text self }
     {
@@ -36,8 +36,8 @@ impl Expected {
     }
 }
 
-/// The reason why a text isn't a module, and the index of the token where parsing stopped. The end
-/// of the text counts as the token after the last one.
+/// The reason why a text wasn't parsed, with the index of the token at which parsing stopped. The
+/// end of the text counts as the token after the last one.
 #[derive(Debug, Drop, Error)]
 pub enum ParseRefusal {
     #[error("token {token}: expected {}", .expected.text())]

@@ -1,4 +1,4 @@
-//! Parsing of statements and of lists of statements.
+//! Parses statements and lists of statements.
 
 ghost use Rattle.std.specs.Prelude.{true, ◌≡◌, ◌≤◌, length};
 ghost use Rattle.ob0_scan.specs.declared.lexeme.TokenKind.TheVariants as kind;
@@ -36,7 +36,8 @@ impl<'t> Parser<'t> {
         Ok((Statement::Empty, at))
     }
 
-    /// Parses an assignment or a call. A selector that isn't empty requires `:=`.
+    /// Parses an assignment or a call, which begins with an identifier. If selectors follow that
+    /// identifier, `:=` is required.
     fn assignment_or_call(&self, at: usize, room: u32) -> Parsed<Statement>
         requires { NameIs self.now.tokens.now at true }
         ensures { Reads statement_of room self.now.tokens.now at result }
@@ -70,7 +71,8 @@ impl<'t> Parser<'t> {
         ))
     }
 
-    /// Parses an optional `"(" [expression {"," expression}] ")"`.
+    /// Parses an optional `"(" [expression {"," expression}] ")"`. Returns None if no `(` comes
+    /// next.
     fn arguments(&self, at: usize, room: u32) -> ParsedItem<Vec<Expression>>
         requires { at ≤ length self.now.tokens.now }
         ensures { ReadsItem arguments_in room self.now.tokens.now at result }
@@ -102,7 +104,7 @@ impl<'t> Parser<'t> {
         Ok((arguments, next))
     }
 
-    /// Parses an optional `"," expression`.
+    /// Parses an optional `"," expression`. Returns None if no comma comes next.
     fn further_argument(&self, at: usize, room: u32) -> ParsedItem<Expression>
         requires { at ≤ length self.now.tokens.now }
         ensures { ReadsItem further_argument_of room self.now.tokens.now at result }
@@ -130,7 +132,7 @@ impl<'t> Parser<'t> {
         Ok((statements, next))
     }
 
-    /// Parses an optional `";" statement`.
+    /// Parses an optional `";" statement`. Returns None if no `;` comes next.
     #[cycle(statements)]
     fn further_statement(&self, at: usize, room: u32) -> ParsedItem<Statement>
         requires { at ≤ length self.now.tokens.now }
@@ -240,7 +242,7 @@ impl<'t> Parser<'t> {
     }
 }
 
-/// True if an expression may begin with this token.
+/// Returns whether an expression may begin with this token.
 fn opens_expression(first: Option<TokenKind>) -> bool
     ensures { result ≡ opens_expression first }
 {

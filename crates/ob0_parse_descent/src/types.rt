@@ -1,4 +1,4 @@
-//! Parsing of types as they are written.
+//! Parses types.
 
 ghost use Rattle.std.specs.Prelude.{true, ◌≤◌, length};
 ghost use Rattle.ob0_scan.specs.declared.lexeme.TokenKind.TheVariants as kind;
@@ -63,7 +63,7 @@ impl<'t> Parser<'t> {
         Ok((WrittenType::Record(RecordType { groups }), end))
     }
 
-    /// Parses an optional `";" fields`.
+    /// Parses an optional `";" fields`. Returns None if no `;` comes next.
     #[cycle(types)]
     fn further_fields(&self, at: usize, room: u32) -> ParsedItem<Fields>
         requires { at ≤ length self.now.tokens.now }

@@ -56,7 +56,7 @@ mutual
 
 -- ---- a whole text
 
--- the tokens of a value's text are the tokens of its outline
+-- The tokens of a value's text are the tokens of its outline.
 tokens_of_text : (d : Data) → IsReadBack d → tokens (compact_text d) ≡ tree.json_tokens (outline d)
 tokens_of_text d r = ap tokens (sym (print-outline d)) ∙ tokens-print (tree.json_tokens (outline d)) (ArePrintable-json_tokens (outline d) r.numbers)
 
@@ -67,7 +67,7 @@ reads_as : (d : Data) → IsReadBack d → depth d ≤ 127 → read (compact_tex
 reads_as d r shallow =
     ap whole (ap (json.value max_depth) (tokens_of_text d r ∙ sym (append-nil _)) ∙ value-json_tokens (outline d) max_depth [] (omega (arith, outline_depth d))) ∙ r.reads
 
--- if nothing was written before, the bytes are the text of the value
+-- If nothing was written before, the bytes are the text of the value and read back as the value.
 pub written : (d : Data) (start bytes : List ℕ) → start ≡ [] → Appends d start bytes → depth d ≤ 127 → Writes d bytes
 written d start bytes none a shallow =
     let is : bytes ≡ compact_text d = a.text ∙ ap (λ b. b ++ compact_text d) none in
@@ -78,7 +78,7 @@ written d start bytes none a shallow =
 abbrev is_plain_byte : ℕ → Bool
 is_plain_byte x = nat_le 32 x && nat_lt x 127 && not (x == 34) && not (x == 92)
 
--- true if all bytes are printable ASCII other than quotes and backslashes
+-- Returns true if all bytes are printable ASCII other than quotes and backslashes.
 abbrev pub are_plain : List ℕ → Bool
 are_plain [] = true
 are_plain (x ∷ xs) = is_plain_byte x && are_plain xs
@@ -94,7 +94,8 @@ escape_plain (x ∷ xs) h =
     let t = and_parts (nat_le 32 x) _ r.0 in
     ap₂ (λ a b. a ++ b) (escape_byte_plain x (eqb-false x 34 (not-true _ r.1)) (eqb-false x 92 (not-true _ q.1)) (leb-true 32 x t.0)) (escape_plain xs p.1)
 
--- a text that is plain so far, with one more byte
+-- If a text needs no escape so far and the next byte needs none, the text with that byte needs
+-- none.
 
 escape_joined : (xs ys : List ℕ) → escape (xs ++ ys) ≡ escape xs ++ escape ys
 escape_joined [] ys = refl
@@ -128,7 +129,7 @@ integer_written (negsuc n) old new fits utf8 is = record {
 
 -- ---- objects
 
--- states that a member's name needs no escape: its text is the name in quotes
+-- Holds if a member's name needs no escape: its text is the name in quotes.
 pub record IsName (k : List ℕ) : Type 0 where
   pub plain : escape k ≡ k
   pub utf8 : IsUtf8 (quoted k)
@@ -139,29 +140,29 @@ name k plain ascii = record { plain = escape_plain k plain; utf8 = IsUtf8-quoted
 brace : IsUtf8 (125 ∷ [])
 brace = IsUtf8-are_ascii _ refl
 
--- the text of a member after a comma or a bracket, with the rest, is UTF-8
+-- The text of a member after a comma or a bracket, followed by the rest, is UTF-8.
 utf8_member : (before : ℕ) (k t rest : List ℕ) → are_ascii (before ∷ []) ≡ true → IsUtf8 (quoted k) → IsUtf8 t → IsUtf8 rest → IsUtf8 (before ∷ (quoted k ++ 58 ∷ (t ++ rest)))
 utf8_member before k t rest ascii uk ut ur =
     IsUtf8-append (before ∷ []) _ (IsUtf8-are_ascii _ ascii) (IsUtf8-append (quoted k) _ uk (IsUtf8-append (58 ∷ []) _ (IsUtf8-are_ascii _ refl) (IsUtf8-append t rest ut ur)))
 
--- a name in quotes, a colon, and the rest
+-- Returns a name in quotes, a colon, and the rest.
 abbrev pub named : List ℕ → List ℕ → List ℕ
 named k rest = 34 ∷ (k ++ 34 ∷ 58 ∷ rest)
 
 name_text : (k rest : List ℕ) → IsName k → named k rest ≡ quoted k ++ 58 ∷ rest
 name_text k rest n = rw n.plain (ap (λ t. 34 ∷ t) (sym (append_assoc k (34 ∷ []) (58 ∷ rest))))
 
--- true if no name needs an escape
+-- Returns true if no name needs an escape.
 abbrev pub are_names : Members → Bool
 are_names no_members = true
 are_names (member k d ms) = (are_plain k && are_ascii k) && are_names ms
 
--- the members that result from reading these one after another
+-- Returns the members that result from reading these members one after another.
 abbrev pub rebuilt : Members → Members → Members
 rebuilt no_members found = found
 rebuilt (member k d ms) found = rebuilt ms (put k d found)
 
--- states that the members read back
+-- Holds if the members read back from their text.
 record AreMembers (ms : Members) : Type 0 where
   reads : (found : Members) → of_members (members_outline ms) found ≡ Some (rebuilt ms found)
   numbers : tree.MembersHaveNumbers (members_outline ms)
@@ -174,7 +175,8 @@ more_members k d ms n r rest = record {
   utf8 = utf8_member 44 k (compact_text d) (members_text true ms) refl n.utf8 r.utf8 rest.utf8;
 }
 
--- the text of a member, and the rest
+-- If a member was appended, the bytes with the rest are the old bytes, the member's text and the
+-- rest.
 member_text : (before : ℕ) (k : List ℕ) (d : Data) (old mid rest : List ℕ) → IsName k → AppendsMember before k d old mid
     → mid ++ rest ≡ old ++ before ∷ (quoted k ++ 58 ∷ (compact_text d ++ rest))
 member_text before k d old mid rest n a =
@@ -189,7 +191,8 @@ members_written (member k d ms) old new names (mid, first, others) =
     let rest = members_written ms mid new both.1 others in
     (rest.0 ∙ member_text 44 k d old mid (members_text true ms) n first, more_members k d ms n first.reads rest.1)
 
--- an object that was written member by member, if its names need no escape and are in order
+-- If the members of an object were written one by one, and their names need no escape and are in
+-- order, the object was written.
 pub object_of : (k : List ℕ) (d : Data) (ms : Members) (old new : List ℕ) → are_names (member k d ms) ≡ true → rebuilt (member k d ms) no_members ≡ member k d ms
     → AppendsMembers 123 (member k d ms) old new → Appends (object (member k d ms)) old new
 object_of k d ms old new names order (mid, first, others) =
@@ -206,7 +209,8 @@ object_of k d ms old new names order (mid, first, others) =
       };
     }
 
--- an object with one member, whose name is any text
+-- If the name and the value of an object's single member were written, the object was written. The
+-- name may be any text.
 pub object_named : (k : List ℕ) (d : Data) (t0 t1 t2 t3 t4 t5 : List ℕ) → t1 ≡ t0 ++ 123 ∷ [] → Appends (string k) t1 t2 → t3 ≡ t2 ++ 58 ∷ [] → Appends d t3 t4 → t5 ≡ t4 ++ 125 ∷ []
     → Appends (object (member k d no_members)) t0 t5
 object_named k d t0 t1 t2 t3 t4 t5 h1 h2 h3 h4 h5 = record {
@@ -218,7 +222,8 @@ object_named k d t0 t1 t2 t3 t4 t5 h1 h2 h3 h4 h5 = record {
   };
 }
 
--- the text of an object with two members, before another text
+-- The text of an object with two members, followed by the rest, consists of both members' texts,
+-- the brackets and the rest.
 pub object_text_of_two : (k l : List ℕ) (d e : Data) (rest : List ℕ) → IsName k → IsName l
     → 123 ∷ named k (compact_text d ++ 44 ∷ named l (compact_text e ++ 125 ∷ rest)) ≡ compact_text (object (member k d (member l e no_members))) ++ rest
 object_text_of_two k l d e rest n o =
@@ -249,13 +254,15 @@ position_read p fits fit =
     read_two (codes "character") (codes "line") (number (unsigned p.character)) (number (unsigned p.line)) (name (codes "character") refl refl) (name (codes "line") refl refl) refl
     (count_read p.character fits) (count_read p.line fit)
 
--- a position's text, built from its end backwards, before another text
+-- The pieces of a position, written from its end backwards before a text, are the position's text
+-- before that text.
 pub position_written : (p : Position) (t0 t1 t2 t3 t4 t5 : List ℕ) → t1 ≡ (125 ∷ []) ++ t0 → t2 ≡ decimal p.line ++ t1 → t3 ≡ (44 ∷ named (codes "line") []) ++ t2 → t4 ≡ decimal p.character ++ t3
     → t5 ≡ (123 ∷ named (codes "character") []) ++ t4 → t5 ≡ compact_text (position_value p) ++ t0
 position_written p t0 t1 t2 t3 t4 t5 h1 h2 h3 h4 h5 =
     rw (h5, h4, h3, h2, h1) (object_text_of_two (codes "character") (codes "line") (number (unsigned p.character)) (number (unsigned p.line)) t0 (name (codes "character") refl refl) (name (codes "line") refl refl))
 
--- a range's text, built from its end backwards, before another text
+-- The pieces of a range, written from its end backwards before a text, are the range's text before
+-- that text.
 pub range_text : (start end : Position) (t0 t1 t2 t3 t4 t5 : List ℕ) → t1 ≡ (125 ∷ []) ++ t0 → t2 ≡ compact_text (position_value start) ++ t1 → t3 ≡ (44 ∷ named (codes "start") []) ++ t2
     → t4 ≡ compact_text (position_value end) ++ t3 → t5 ≡ (123 ∷ named (codes "end") []) ++ t4 → t5 ≡ compact_text (range_value start end) ++ t0
 range_text start end t0 t1 t2 t3 t4 t5 h1 h2 h3 h4 h5 =
@@ -264,11 +271,12 @@ range_text start end t0 t1 t2 t3 t4 t5 h1 h2 h3 h4 h5 =
 pub range_read : (start end : Position) → IsReadBack (position_value start) → IsReadBack (position_value end) → IsReadBack (range_value start end)
 range_read start end r q = read_two (codes "end") (codes "start") (position_value end) (position_value start) (name (codes "end") refl refl) (name (codes "start") refl refl) refl q r
 
--- a value's text that was built in a buffer of its size is appended
+-- If a value's text was built at the end of a buffer and then appended, the value was appended.
 pub put_down : (d : Data) (old new t0 t1 : List ℕ) → t0 ≡ [] → t1 ≡ compact_text d ++ t0 → new ≡ old ++ t1 → IsReadBack d → Appends d old new
 put_down d old new t0 t1 none put is r = record { text = is ∙ ap (λ t. old ++ t) (put ∙ ap (λ t. compact_text d ++ t) none ∙ append-nil _); reads = r }
 
--- an edit's text, whose range was written together with the text around it
+-- If an edit's new text was written first and its range together with the text around it after
+-- that, the edit was written.
 pub edit_put_down : (said : List ℕ) (start end : Position) (t0 t1 t2 t3 : List ℕ) → IsUtf8 said → t1 ≡ t0 ++ (123 ∷ named (codes "newText") (34 ∷ [])) → t2 ≡ t1 ++ escape said
     → t3 ≡ t2 ++ (codes "\",\"range\":" ++ (compact_text (range_value start end) ++ 125 ∷ [])) → IsReadBack (range_value start end)
     → Appends (object (member (codes "newText") (string said) (member (codes "range") (range_value start end) no_members))) t0 t3
@@ -288,7 +296,7 @@ each_none later t = record { text = sym (append-nil t); reads = tt }
 pub each_one : (d : Data) (old new : List ℕ) → Appends d old new → AppendsEach false (d ∷ []) old new
 each_one d old new a = record { text = a.text ∙ ap (λ t. old ++ t) (sym (append-nil (compact_text d))); reads = (a.reads, tt) }
 
--- true if there is a value
+-- Returns true if there is at least one value.
 abbrev pub some : List Data → Bool
 some [] = false
 some (d ∷ ds) = true
@@ -323,7 +331,7 @@ some_taken shown [] i h = absurd (none_below i h)
 some_taken shown (x ∷ xs) zero h = refl
 some_taken shown (x ∷ xs) (suc i) h = sym (lt-ltb 0 (suc i) (omega arith))
 
--- the next item of a list
+-- After the next item of a list was appended, the items so far are appended.
 pub each_next : {A : Type 0} (shown : A → Data) (xs : List A) (i : ℕ) (x : A) (later : Bool) (a b c : List ℕ) → i < length xs → AppendsEach false (map shown (take i xs)) a b
     → later ≡ nat_lt 0 i → AppendsItem later (shown (get_or xs i x)) b c → AppendsEach false (map shown (take (i + 1) xs)) a c
 each_next shown xs i x later a b c h each is next =
@@ -332,7 +340,7 @@ each_next shown xs i x later a b c h each is next =
     (each_joined (map shown (take i xs)) (shown (get_or xs i x) ∷ []) a b (b ++ comma_if later) c each
     (ap (λ l. b ++ comma_if l) (is ∙ sym (some_taken shown xs i h) ∙ sym (and_true _))) (each_one (shown (get_or xs i x)) (b ++ comma_if later) c (record { text = put; reads = next.reads })))
 
--- all items of a list
+-- If the items so far are all items of a list, the whole list is appended.
 pub each_done : {A : Type 0} (shown : A → Data) (xs : List A) (i : ℕ) (a b : List ℕ) → length xs ≤ i → AppendsEach false (map shown (take i xs)) a b → AppendsEach false (map shown xs) a b
 each_done shown xs i a b all each = subst (λ ys. AppendsEach false (map shown ys) a b) (take_all i xs all) each
 

@@ -1,4 +1,4 @@
--- Lists that are read item by item.
+-- Proves facts about lists that are read item by item.
 use Rattle.std.proofs.Common.{◌≡◌, ◌∙◌, List, [], ◌∷◌, ◌++◌, length, Option, Some, None, option_map, arith, refl, ap, sym}
 use Rattle.std.proofs.lemmas.List.{append_assoc, append-nil}
 use Rattle.serde_json.specs.View.{view, items_view}

@@ -1,5 +1,5 @@
--- A message has only whole numbers if its result or params do. It is nested one level deeper than
--- these.
+-- Proves that a message has only whole numbers if its result or params do, and that it is nested
+-- one level deeper than these.
 use Rattle.std.proofs.Common.{◌≡◌, ◌≤◌, ℤ, pos, negsuc, List, false, ℕ, arith, refl}
 use Rattle.serde_json.specs.Data.{Data, depth}
 use Rattle.serde_json.specs.Written.{has_float}

@@ -1,14 +1,14 @@
--- The report of a message's fault (JSON-RPC 2.0, error objects).
+-- Defines the error that reports the fault of a message (JSON-RPC 2.0, error objects).
 -- Rule: docs/PROTOCOL.md, Order of checks, and errors; JSON-RPC 2.0, error object.
 use Rattle.std.specs.Prelude.{◌-◌, ℕ, ℤ, negsuc, List, codes}
 use Rattle.ob0_rpc.specs.declared.incoming.RpcFault.{RpcFault}
 use Rattle.ob0_rpc.specs.declared.incoming.RpcFault.TheVariants.{NotJson, NotAMessage, UnknownMethod, BadParams, Memory}
 
--- a negative error code
+-- Returns the number -n, for n of at least 1.
 abbrev pub minus : ℕ → ℤ
 minus n = negsuc (n - 1)
 
--- the code of the error that reports a fault; a failed allocation is never reported
+-- Returns the code of the error that reports a fault. A failed allocation is never reported.
 abbrev pub error_code : RpcFault → ℤ
 error_code NotJson = minus 32700
 error_code NotAMessage = minus 32600
@@ -16,7 +16,7 @@ error_code UnknownMethod = minus 32601
 error_code BadParams = minus 32602
 error_code Memory = minus 32603
 
--- the message of the error that reports a fault
+-- Returns the message of the error that reports a fault.
 abbrev pub error_text : RpcFault → List ℕ
 error_text NotJson = codes "not JSON"
 error_text NotAMessage = codes "not a message"

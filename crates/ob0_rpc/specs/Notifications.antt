@@ -1,4 +1,5 @@
--- The meaning of notifications, by method and params (LSP 3.17, text document synchronization).
+-- Defines the meaning of notifications, by method and params (LSP 3.17, text document
+-- synchronization).
 -- Rule: docs/PROTOCOL.md, Documents, JSON shapes 4; LSP 3.17, text document synchronization.
 use Rattle.std.specs.Prelude.{ℕ, ℤ, List, [], ◌∷◌, Option, Some, None, if◌then◌else◌, option_map, option_and_then, codes}
 use Rattle.std.specs.Str.{bytes_eq, chars}
@@ -8,66 +9,70 @@ use Rattle.ob0_text.specs.OpenDocuments.{TextChange}
 use Rattle.ob0_text.specs.declared.position_types.Range.{Range}
 use Rattle.ob0_rpc.specs.Members.{is_absent, text_member, document_uri, document_version, document_text, json_range}
 
--- the meaning of a notification
+-- The meaning of a notification.
 pub data Notification : Type 0 where
   exits : Notification
-  -- the uri, the version and the characters of the text
+  -- An open: the uri, the version and the characters of the text.
   opens : List ℕ → ℤ → List ℕ → Notification
-  -- the uri, the version and the changes in order
+  -- A change: the uri, the version and the changes in order.
   changes : List ℕ → ℤ → List TextChange → Notification
   closes : List ℕ → Notification
-  -- an open, a change or a close that can't be read, with its uri if that can be read
+  -- An open, a change or a close that can't be read, with its uri if that can be read.
   unreadable : Option (List ℕ) → Notification
   other : Notification
 
--- reads the range of a change: Some None if it has no range, None if the range can't be read
+-- Returns the range of a change. Some None means that the change has no range, and None that the
+-- range can't be read.
 abbrev pub range_of_change : Option Data → Option (Option Range)
 range_of_change found =
     if is_absent found then Some None else option_map Some (option_and_then json_range found)
 
--- a change, if its range and its text can be read
+-- Returns the change with this range and text, or None if one of them can't be read.
 abbrev pub change_by : Option (Option Range) → Option (List ℕ) → Option TextChange
 change_by (Some range) (Some text) = Some (record { range = range; text = chars text })
 change_by (Some range) None = None
 change_by None text = None
 
--- Reads a change of a range, or of the whole text.
+-- Returns the change of a range or of the whole text that this value is, or None if it can't be
+-- read.
 abbrev pub change_in : Data → Option TextChange
 change_in entry =
     change_by (range_of_change (get (codes "range") entry)) (text_member (codes "text") entry)
 
--- all changes, or None if one of them can't be read
+-- Returns all changes of a list, or None if one of them can't be read.
 abbrev pub all_changes : Items → Option (List TextChange)
 all_changes no_items = Some []
 all_changes (item entry later) =
     option_and_then (λ change. option_map (λ changes. change ∷ changes) (all_changes later))
     (change_in entry)
 
--- the changes in params, or None if one of them can't be read
+-- Returns the changes in params, or None if one of them can't be read.
 abbrev pub changes_of : Data → Option (List TextChange)
 changes_of params =
     option_and_then all_changes (option_and_then as_array (get (codes "contentChanges") params))
 
--- `textDocument/didOpen`, with only the uri if the rest can't be read
+-- Returns the meaning of `textDocument/didOpen` with these params. If one of them can't be read,
+-- only the uri is known.
 abbrev pub open_of : Option (List ℕ) → Option ℤ → Option (List ℕ) → Notification
 open_of None version text = unreadable None
 open_of (Some uri) (Some version) (Some text) = opens uri version text
 open_of (Some uri) (Some version) None = unreadable (Some uri)
 open_of (Some uri) None text = unreadable (Some uri)
 
--- `textDocument/didChange`, with only the uri if the rest can't be read
+-- Returns the meaning of `textDocument/didChange` with these params. If one of them can't be read,
+-- only the uri is known.
 abbrev pub change_of : Option (List ℕ) → Option ℤ → Option (List TextChange) → Notification
 change_of None version all = unreadable None
 change_of (Some uri) (Some version) (Some all) = changes uri version all
 change_of (Some uri) (Some version) None = unreadable (Some uri)
 change_of (Some uri) None all = unreadable (Some uri)
 
--- `textDocument/didClose`, if its uri can be read
+-- Returns the meaning of `textDocument/didClose` with this uri, which may be unreadable.
 abbrev pub close_of : Option (List ℕ) → Notification
 close_of None = unreadable None
 close_of (Some uri) = closes uri
 
--- reads a notification by its method
+-- Returns the meaning of the notification with this method and these params.
 abbrev pub note_of : List ℕ → Data → Notification
 note_of method params =
     if bytes_eq method (codes "exit") then exits

@@ -1,4 +1,4 @@
--- The meaning of requests, by method and params (LSP 3.17).
+-- Defines the meaning of requests, by method and params (LSP 3.17).
 -- Rule: docs/PROTOCOL.md, JSON shapes 4, Capabilities; LSP 3.17, requests.
 use Rattle.std.specs.Prelude.{ℕ, List, [], ◌∷◌, Bool, false, Option, Some, None, is_some, if◌then◌else◌, ◌||◌, option_map, option_and_then, unwrap_or, codes, Result, Ok, Err}
 use Rattle.std.specs.Str.{bytes_eq}
@@ -14,53 +14,54 @@ use Rattle.ob0_rpc.specs.declared.clients.Client.{Client}
 use Rattle.ob0_rpc.specs.declared.incoming.RpcFault.{RpcFault}
 use Rattle.ob0_rpc.specs.declared.incoming.RpcFault.TheVariants.{UnknownMethod, BadParams}
 
--- a document and a position in it
+-- A document and a position in it.
 pub record At : Type 0 where
   pub uri : List ℕ
   pub position : Position
 
--- a request; its texts are bytes
+-- A request of a known method. Its texts are bytes of UTF-8.
 pub data ClientRequest : Type 0 where
   initialize : Client → ClientRequest
   shutdown : ClientRequest
   hover : At → ClientRequest
   definition : At → ClientRequest
-  -- the truth value says whether the declaration is also requested
+  -- A request for references. The truth value says whether the declaration is also requested.
   references : At → Bool → ClientRequest
   prepare_rename : At → ClientRequest
-  -- the new name
+  -- A request to rename the name or field at a position, with the new name.
   rename : At → List ℕ → ClientRequest
-  -- the document, the range, and the requested kinds of actions, if there are any
+  -- A request for code actions: the document, the range, and the requested kinds of actions (None
+  -- if all kinds are requested).
   code_action : List ℕ → Range → Option (List (List ℕ)) → ClientRequest
   formatting : List ℕ → Indent → ClientRequest
 
 -- ---- the capabilities of a client
 
--- the value at the end of a path of member names
+-- Returns the value at the end of a path of member names, or None if there is none.
 abbrev pub within : List (List ℕ) → Data → Option Data
 within [] d = Some d
 within (name ∷ names) d = option_and_then (within names) (get name d)
 
--- true if a member is true; any other value counts as absent
+-- Returns true if the member is true. Any other value counts as absent.
 abbrev pub is_true : Option Data → Bool
 is_true found = unwrap_or (option_and_then as_bool found) false
 
--- true if a member is this text
+-- Returns true if the member is this text.
 abbrev pub is_text : List ℕ → Option (List ℕ) → Bool
 is_text text None = false
 is_text text (Some other) = bytes_eq other text
 
--- true if one of the items is this text
+-- Returns true if one of the items is this text.
 abbrev pub has_text : List ℕ → Items → Bool
 has_text text no_items = false
 has_text text (item d ds) = is_text text (as_str d) || has_text text ds
 
--- true if there is a list that contains this text
+-- Returns true if there is a list and it contains this text.
 abbrev pub lists_text : List ℕ → Option Items → Bool
 lists_text text None = false
 lists_text text (Some items) = has_text text items
 
--- the capabilities of a client, from the params of `initialize`
+-- Returns the capabilities of a client, from the params of `initialize`.
 abbrev pub client_of : Data → Client
 client_of params = record {
   counts_utf8 =
@@ -84,63 +85,67 @@ client_of params = record {
       ∷ []) params);
 }
 
--- reads `initialize`, whose params only have to be an object
+-- Returns the request `initialize`, or None if its params aren't an object.
 abbrev pub initialize_of : Data → Option ClientRequest
 initialize_of params =
     if is_some (as_object params) then Some (initialize (client_of params)) else None
 
 -- ---- requests about a document
 
--- a document and a position, if both can be read
+-- Returns the document and position with this uri, or None if one of the two can't be read.
 abbrev pub at_by : Option (List ℕ) → Option Position → Option At
 at_by (Some uri) (Some position) = Some (record { uri = uri; position = position })
 at_by (Some uri) None = None
 at_by None position = None
 
--- the document and the position in params
+-- Returns the document and the position in params, or None if one of the two can't be read.
 abbrev pub at_of : Data → Option At
 at_of params = at_by (document_uri params) (position_member (codes "position") params)
 
--- a request for references, if the place and {"context":{"includeDeclaration":b}} can be read
+-- Returns the request for references with this position and this value of `includeDeclaration`, or
+-- None if one of the two can't be read.
 abbrev pub references_by : Option At → Option Bool → Option ClientRequest
 references_by (Some at) (Some include) = Some (references at include)
 references_by (Some at) None = None
 references_by None include = None
 
--- reads the params of `textDocument/references`
+-- Returns the request `textDocument/references` with these params, or None if they can't be read.
 abbrev pub references_of : Data → Option ClientRequest
 references_of params =
     references_by (at_of params)
     (option_and_then (truth_member (codes "includeDeclaration")) (get (codes "context") params))
 
--- a rename, if the place and the name can be read
+-- Returns the request for renaming with this position and this new name, or None if one of the two
+-- can't be read.
 abbrev pub rename_by : Option At → Option (List ℕ) → Option ClientRequest
 rename_by (Some at) (Some name) = Some (rename at name)
 rename_by (Some at) None = None
 rename_by None name = None
 
--- reads the params of `textDocument/rename`
+-- Returns the request `textDocument/rename` with these params, or None if they can't be read.
 abbrev pub rename_of : Data → Option ClientRequest
 rename_of params = rename_by (at_of params) (text_member (codes "newName") params)
 
--- the texts of a list, or None if an item isn't a text
+-- Returns the texts of a list, or None if an item isn't a text.
 abbrev pub texts_of : Items → Option (List (List ℕ))
 texts_of no_items = Some []
 texts_of (item d ds) =
     option_and_then (λ text. option_map (λ texts. text ∷ texts) (texts_of ds)) (as_str d)
 
--- reads a list of texts, which may be absent
+-- Returns the texts of a list that may be absent. Some None means that it is absent, and None that
+-- it can't be read.
 abbrev pub only_by : Option Data → Option (Option (List (List ℕ)))
 only_by found =
     if is_absent found
     then Some None
     else option_map Some (option_and_then texts_of (option_and_then as_array found))
 
--- the kinds that a context requests, or None if they can't be read or the context isn't an object
+-- Returns the kinds that a context requests. Some None means that all kinds are requested, and None
+-- that the kinds can't be read or the context isn't an object.
 abbrev pub only_of : Data → Option (Option (List (List ℕ)))
 only_of context = if is_some (as_object context) then only_by (get (codes "only") context) else None
 
--- a code action, if its parts can be read
+-- Returns the request for code actions with these parts, or None if one of them can't be read.
 abbrev pub code_action_by : Option (List ℕ)
     → Option Range
     → Option (Option (List (List ℕ)))
@@ -150,42 +155,44 @@ code_action_by (Some uri) (Some range) None = None
 code_action_by (Some uri) None only = None
 code_action_by None range only = None
 
--- reads the params of `textDocument/codeAction`
+-- Returns the request `textDocument/codeAction` with these params, or None if they can't be read.
 abbrev pub code_action_of : Data → Option ClientRequest
 code_action_of params =
     code_action_by (document_uri params) (range_member (codes "range") params)
     (option_and_then only_of (get (codes "context") params))
 
--- the indentation, if both options can be read: a level is one tab or some spaces
+-- Returns the indentation with these two options, or None if one of them can't be read. A level is
+-- one tab or some spaces.
 abbrev pub indent_by : Option ℕ → Option Bool → Option Indent
 indent_by (Some size) (Some spaces) = Some (if spaces then Spaces (level_spaces size) else Tab)
 indent_by (Some size) None = None
 indent_by None spaces = None
 
--- reads the indentation from formatting options
+-- Returns the indentation that formatting options request, or None if they can't be read.
 abbrev pub indent_of : Data → Option Indent
 indent_of options =
     indent_by (count_member (codes "tabSize") options) (truth_member (codes "insertSpaces") options)
 
--- a formatting request, if the document and the options can be read
+-- Returns the request for formatting with this document and indentation, or None if one of the two
+-- can't be read.
 abbrev pub formatting_by : Option (List ℕ) → Option Indent → Option ClientRequest
 formatting_by (Some uri) (Some indent) = Some (formatting uri indent)
 formatting_by (Some uri) None = None
 formatting_by None indent = None
 
--- reads the params of `textDocument/formatting`
+-- Returns the request `textDocument/formatting` with these params, or None if they can't be read.
 abbrev pub formatting_of : Data → Option ClientRequest
 formatting_of params =
     formatting_by (document_uri params) (option_and_then indent_of (get (codes "options") params))
 
 -- ---- requests
 
--- the request, or the error `bad params`
+-- Returns the request, or the error `bad params` for None.
 abbrev pub or_bad : Option ClientRequest → Result ClientRequest RpcFault
 or_bad (Some ask) = Ok ask
 or_bad None = Err BadParams
 
--- reads a request about a document, by its method
+-- Returns the request about a document with this method and these params, or an error.
 abbrev pub language_call_of : List ℕ → Data → Result ClientRequest RpcFault
 language_call_of method params =
     if bytes_eq method (codes "textDocument/hover") then or_bad (option_map hover (at_of params))
@@ -199,7 +206,8 @@ language_call_of method params =
     else if bytes_eq method (codes "textDocument/formatting") then or_bad (formatting_of params)
     else Err UnknownMethod
 
--- reads a request by its method; `shutdown` accepts any params
+-- Returns the request with this method and these params, or an error. `shutdown` accepts any
+-- params.
 abbrev pub request_by_method : List ℕ → Data → Result ClientRequest RpcFault
 request_by_method method params =
     if bytes_eq method (codes "initialize") then or_bad (initialize_of params)

@@ -1,4 +1,4 @@
--- The meaning of the code's values.
+-- Defines the meaning of the code's values.
 -- Rule: none; for contracts: what values of the code mean.
 use Rattle.std.specs.Prelude.{◌≡◌, ℕ, List, Option, Some, None, Result, Ok, Err, string_bytes, String, Vec, map, option_map}
 use Rattle.std.specs.Str.{chars}
@@ -20,24 +20,24 @@ use Rattle.ob0_rpc.specs.declared.incoming.RpcFault.{RpcFault}
 use Rattle.ob0_rpc.specs.declared.incoming.RpcFault.TheVariants.{NotJson, NotAMessage, UnknownMethod, BadParams, Memory}
 use Rattle.ob0_rpc.specs.declared.notifications.ClientNotification as noted
 
--- the JSON value of an id
+-- Returns the JSON value of an id.
 abbrev pub id_data : Id → Data
 id_data (Signed z) = number (of_integer z)
 id_data (Unsigned n) = number (unsigned n)
 id_data (Text t) = string (string_bytes t)
 
--- the id of an error, or null if it has none
+-- Returns the JSON value of an error's id, which is null for None.
 abbrev pub id_or_null : Option Id → Data
 id_or_null (Some id) = id_data id
 id_or_null None = null
 
--- the meaning of a message
+-- Returns the meaning of a message that the code has read.
 abbrev pub seen : Incoming → MessageMeaning
 seen (Request id method params) = request (id_data id) (string_bytes method) (view params)
 seen (Notice method params) = notice (string_bytes method) (view params)
 seen Ignored = response
 
--- states that a result is right for a JSON value
+-- Holds if the result is right for a JSON value. A failed allocation is allowed for any value.
 abbrev pub MeansAs : Data → Result Incoming RpcFault → Type 0
 MeansAs d (Ok incoming) = meaning_of d ≡ seen incoming
 MeansAs d (Err NotAMessage) = meaning_of d ≡ not_a_message
@@ -46,21 +46,21 @@ MeansAs d (Err NotJson) = ⊥
 MeansAs d (Err UnknownMethod) = ⊥
 MeansAs d (Err BadParams) = ⊥
 
--- states that a result is right for a content
+-- Holds if the result is right for a content. A failed allocation is allowed for any content.
 abbrev pub ReadsAs : List ℕ → Result Incoming RpcFault → Type 0
 ReadsAs content (Err NotJson) = ReadsContent content None
 ReadsAs content (Err Memory) = Unit {0}
 ReadsAs content r = (d : Data) × ReadsContent content (Some d) × MeansAs d r
 
--- the meaning of a position in a document
+-- Returns the meaning of a position in a document.
 abbrev pub at_seen : DocumentPosition → At
 at_seen place = record { uri = string_bytes place.uri; position = place.position }
 
--- the meaning of the requested kinds, if there are any
+-- Returns the meaning of the requested kinds, or None if all kinds are requested.
 abbrev pub kinds_seen : Option (Vec (String Global) Global) → Option (List (List ℕ))
 kinds_seen kinds = option_map (λ texts. map string_bytes texts.items) kinds
 
--- the meaning of a request
+-- Returns the meaning of a request.
 abbrev pub seen_call : called.ClientRequest → ClientRequest
 seen_call (called.TheVariants.Initialize client) = initialize client
 seen_call called.TheVariants.Shutdown = shutdown
@@ -73,7 +73,8 @@ seen_call (called.TheVariants.CodeAction uri range only) =
     code_action (string_bytes uri) range (kinds_seen only)
 seen_call (called.TheVariants.Formatting uri indent) = formatting (string_bytes uri) indent
 
--- states that a result is right for a request with this meaning
+-- Holds if the result is right for a request with this meaning. A failed allocation is allowed for
+-- any request.
 abbrev pub Requests : Result ClientRequest RpcFault → Result called.ClientRequest RpcFault → Type 0
 Requests requested (Ok call) = requested ≡ Ok (seen_call call)
 Requests requested (Err UnknownMethod) = requested ≡ Err UnknownMethod
@@ -82,7 +83,7 @@ Requests requested (Err Memory) = Unit {0}
 Requests requested (Err NotJson) = ⊥
 Requests requested (Err NotAMessage) = ⊥
 
--- the meaning of a notification
+-- Returns the meaning of a notification.
 abbrev pub seen_note : noted.ClientNotification → Notification
 seen_note noted.TheVariants.Exit = exits
 seen_note (noted.TheVariants.Open uri version text) =
@@ -93,7 +94,8 @@ seen_note (noted.TheVariants.Close uri) = closes (string_bytes uri)
 seen_note (noted.TheVariants.Unreadable uri) = unreadable (option_map string_bytes uri)
 seen_note noted.TheVariants.Other = other
 
--- states that a result is right for a notification with this method and these params
+-- Holds if the result is right for a notification with this method and these params. A failed
+-- allocation is allowed for any notification.
 abbrev pub ReportsAs : List ℕ → Data → Result noted.ClientNotification RpcFault → Type 0
 ReportsAs method params (Ok note) = note_of method params ≡ seen_note note
 ReportsAs method params (Err Memory) = Unit {0}

@@ -1,4 +1,4 @@
--- The written messages, as JSON values. Members are in byte order of their names.
+-- Defines the written messages, as JSON values. Members are in byte order of their names.
 -- Rule: docs/PROTOCOL.md, JSON shapes 2; JSON-RPC 2.0, response object.
 use Rattle.std.specs.Prelude.{ℕ, ℤ, List, codes, string_bytes}
 use Rattle.serde_json.specs.Data.{Data, number, string, object, unsigned, member, no_members}
@@ -6,55 +6,55 @@ use Rattle.serde_json.specs.Find.{of_integer}
 use Rattle.ob0_text.specs.declared.edits.Edit.{Edit}
 use Rattle.ob0_text.specs.declared.position_types.Position.{Position}
 
--- the JSON value of a text
+-- Returns the JSON value of a text.
 abbrev pub text : List ℕ → Data
 text = string
 
--- the JSON value of a whole number
+-- Returns the JSON value of a whole number.
 abbrev pub whole_number : ℤ → Data
 whole_number z = number (of_integer z)
 
--- the value of the member `jsonrpc`
+-- The value of the member `jsonrpc`.
 abbrev pub json_rpc : Data
 json_rpc = text (codes "2.0")
 
--- an answer, {"id":I,"jsonrpc":"2.0","result":X}
+-- Returns an answer, {"id":I,"jsonrpc":"2.0","result":X}.
 abbrev pub result_message : Data → Data → Data
 result_message id value =
     object (member (codes "id") id
     (member (codes "jsonrpc") json_rpc (member (codes "result") value no_members)))
 
--- an error, {"code":c,"message":m}
+-- Returns an error, {"code":c,"message":m}.
 abbrev pub error_value : ℤ → List ℕ → Data
 error_value code said =
     object
     (member (codes "code") (whole_number code) (member (codes "message") (text said) no_members))
 
--- a refusal, {"error":{..},"id":I,"jsonrpc":"2.0"}
+-- Returns a refusal, {"error":{..},"id":I,"jsonrpc":"2.0"}.
 abbrev pub error_message : Data → ℤ → List ℕ → Data
 error_message id code said =
     object (member (codes "error") (error_value code said)
     (member (codes "id") id (member (codes "jsonrpc") json_rpc no_members)))
 
--- a notification, {"jsonrpc":"2.0","method":M,"params":P}
+-- Returns a notification, {"jsonrpc":"2.0","method":M,"params":P}.
 abbrev pub notification_message : List ℕ → Data → Data
 notification_message method params =
     object (member (codes "jsonrpc") json_rpc
     (member (codes "method") (text method) (member (codes "params") params no_members)))
 
--- a position, {"character":c,"line":l}
+-- Returns a position, {"character":c,"line":l}.
 abbrev pub position_value : Position → Data
 position_value p =
     object (member (codes "character") (number (unsigned p.character))
     (member (codes "line") (number (unsigned p.line)) no_members))
 
--- a range, {"end":P,"start":P}
+-- Returns a range, {"end":P,"start":P}.
 abbrev pub range_value : Position → Position → Data
 range_value start end =
     object (member (codes "end") (position_value end)
     (member (codes "start") (position_value start) no_members))
 
--- an edit, {"newText":t,"range":R}
+-- Returns an edit, {"newText":t,"range":R}.
 abbrev pub edit_value : Edit → Data
 edit_value e =
     object (member (codes "newText") (text (string_bytes e.text))

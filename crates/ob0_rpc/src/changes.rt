@@ -3,8 +3,8 @@
 //! A reported text isn't copied here: the params are moved out of the message, and the text out of
 //! the params. This happens last, after everything that is borrowed from the same map has been
 //! read. A uri and a method are copied, because they are short and the value that contains them is
-//! still needed. A range that is null counts as absent (the whole text). If a range can't be read,
-//! neither can the whole notification.
+//! still needed. A range that is null counts as absent, so the change is of the whole text. If a
+//! range can't be read, the whole notification can't be read.
 ghost use Rattle.std.specs.Prelude.{◌≡◌, IfOk, codes, option_and_then, option_map, map};
 ghost use Rattle.ob0_text.specs.OpenDocuments.{change_in_text};
 ghost use Rattle.serde_json.specs.Find.{get, as_array};
@@ -16,7 +16,7 @@ use ob0_text::{Change, Range};
 use serde_json::Value;
 use std::alloc::{AllocError, Global};
 
-/// Returns the changes, or None if an entry can't be read.
+/// Returns the changes in params, or None if an entry can't be read.
 pub fn read_changes(alloc: Global, params: Value) -> Result<Option<Vec<Change>>, AllocError>
     ensures { IfOk result (λ found. option_map (λ cs. map change_in_text cs.items) found
         ≡ changes_in (view params)) }
@@ -54,7 +54,7 @@ fn into_list(value: Value) -> Option<Vec<Value>>
     }
 }
 
-/// Reads a change of a range or of the whole text.
+/// Returns a change of a range or of the whole text, or None if it can't be read.
 fn read_change_in(entry: Value) -> Option<Change>
     ensures { option_map change_in_text result ≡ change_in (view entry) }
 {
@@ -63,8 +63,8 @@ fn read_change_in(entry: Value) -> Option<Change>
     Some(Change { range, text })
 }
 
-/// Reads the range of a change. Returns `Some(None)` if it has no range, and `None` if the range
-/// can't be read.
+/// Returns the range of a change. `Some(None)` means that the change has no range, and `None` that
+/// the range can't be read.
 fn read_range(member: Option<&Value>) -> Option<Option<Range>>
     ensures { result ≡ range_of_change (option_map (λ v. view v.now) member.entry) }
 {

@@ -1,4 +1,4 @@
-//! The capabilities of clients.
+//! Reads the capabilities of clients.
 //!
 //! A member counts as absent if it, or an object on the path to it, has another shape.
 ghost use Rattle.std.specs.Prelude.{◌≡◌, ◌∷◌, [], codes, is_some, option_map, option_and_then};
@@ -11,18 +11,18 @@ use serde_json::Value;
 /// The capabilities that a client announces.
 #[derive(Clone, Copy, Debug, Drop, PartialEq, Eq)]
 pub struct Client {
-    /// It offers positions in bytes of UTF-8.
+    /// The client offers positions in bytes of UTF-8.
     pub counts_utf8: bool,
-    /// It sends `prepareRename` before it requests a rename.
+    /// The client sends `prepareRename` before it requests a rename.
     pub prepares_renames: bool,
-    /// It accepts code actions that aren't commands.
+    /// The client accepts code actions that aren't commands.
     pub takes_literal_actions: bool,
-    /// It accepts edits that specify the versions of their documents.
+    /// The client accepts edits that specify the versions of their documents.
     pub takes_document_changes: bool,
 }
 
-/// Reads a client's capabilities from the params of `initialize`. Members of another shape count as
-/// absent.
+/// Returns a client's capabilities from the params of `initialize`. Members of another shape count
+/// as absent.
 pub fn client_of(params: &Value) -> Client
     ensures { result ≡ client_in (view params.now) }
 {

@@ -1,4 +1,4 @@
-//! The meaning of a message's content.
+//! Reads a message's content, up to its method and params.
 ghost use Rattle.std.specs.Prelude.{◌≡◌, true, false, IfOk, MatchOption};
 ghost use Rattle.serde_json.specs.View.{view, number_view};
 ghost use Rattle.serde_json.specs.Data.{number};
@@ -10,7 +10,7 @@ use serde_json::{Number, Value};
 use std::alloc::{AllocError, AllocFailed, Global};
 use thiserror::Error;
 
-/// The id of a request.
+/// The id of a request: a whole number of 64 bits or a text.
 #[derive(Drop)]
 pub enum Id {
     Signed(i64),
@@ -18,7 +18,8 @@ pub enum Id {
     Text(String),
 }
 
-/// A message that has been read.
+/// A message that has been read: a request or a notification with its params, or a response, which
+/// is ignored.
 #[derive(Drop)]
 pub enum Incoming {
     Request(Id, String, Value),
@@ -26,7 +27,7 @@ pub enum Incoming {
     Ignored,
 }
 
-/// Why a content, or the params of a message, can't be read.
+/// The reason why a content, or the method or params of a message, can't be read.
 #[derive(Clone, Copy, Debug, Drop, PartialEq, Eq, Error)]
 pub enum RpcFault {
     #[error("not JSON")]
@@ -58,7 +59,7 @@ impl RpcFault {
         }
     }
 
-    /// Returns the message of that error.
+    /// Returns the message of the error that reports this fault.
     pub fn text(self) -> &'static str
         ensures { result.now ≡ error_text self }
     {
@@ -94,7 +95,7 @@ impl<T: Drop> From<AllocFailed<T>> for RpcFault {
     }
 }
 
-/// Reads a content: one JSON value in UTF-8, nested at most 127 deep.
+/// Returns the message that a content is: one JSON value in UTF-8, nested at most 127 deep.
 pub fn read(alloc: Global, content: &[u8]) -> Result<Incoming, RpcFault>
     ensures { ReadsAs content.now result }
 {
@@ -108,7 +109,7 @@ pub fn read(alloc: Global, content: &[u8]) -> Result<Incoming, RpcFault>
     }
 }
 
-// Returns the message that a JSON value represents.
+// Returns the message that a JSON value is, or the fault `NotAMessage`.
 fn meaning(alloc: Global, message: Value) -> Result<Incoming, RpcFault>
     ensures { MeansAs (view message) result }
 {
@@ -133,7 +134,7 @@ fn meaning(alloc: Global, message: Value) -> Result<Incoming, RpcFault>
     Ok(Incoming::Request(id, method, params_in(message)))
 }
 
-// Moves the params out of a message. They are null if they are absent.
+// Moves the params out of a message, or returns null if they are absent.
 fn params_in(message: Value) -> Value
     ensures { view result ≡ params_of (view message) }
 {
@@ -143,7 +144,8 @@ fn params_in(message: Value) -> Value
     }
 }
 
-// Reads an id, which is a whole number or a text.
+// Returns the id that a value is, or None if the value is neither a whole number of 64 bits nor a
+// text.
 fn read_id(alloc: Global, value: &Value) -> Result<Option<Id>, AllocError>
     ensures { IfOk result (λ found. MatchOption found
         (is_id (view value.now) ≡ false)

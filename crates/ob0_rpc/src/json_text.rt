@@ -14,13 +14,13 @@ ghost use Rattle.ob0_rpc.specs.Appending.{Appends, AppendsEach, AppendsItem, or_
 
 use std::alloc::AllocError;
 
-/// The greatest capacity, in bytes, that is reserved at once for the items of a list.
+/// The greatest capacity in bytes that is reserved at once for the items of a list.
 const MAX_CAPACITY: usize = 1 << 26;
 
 /// A type whose values are written as JSON. After an error `out` may have any contents; its owner
 /// drops it.
 pub trait WriteJson {
-    /// The JSON value that is written.
+    /// Returns the JSON value that is written.
     ghost value: { Self → Data };
 
     fn write(&self, out: &mut Vec<u8>) -> Result<(), AllocError>
@@ -112,8 +112,8 @@ fn write_each<W: WriteJson>(out: &mut Vec<u8>, values: &[W]) -> Result<(), Alloc
     Ok(())
 }
 
-/// Writes an item of a list. After the first item, reserves capacity for the others, as if they
-/// were about as long.
+/// Writes an item of a list, after a comma if `later` is true. After the first item, capacity for
+/// the other items is reserved, as if they were about as long.
 fn write_one_of<W: WriteJson>(
     out: &mut Vec<u8>,
     count: usize,
@@ -130,7 +130,8 @@ fn write_one_of<W: WriteJson>(
     Ok(())
 }
 
-/// Returns the capacity for the other items of a list, if they are about as long as this one.
+/// Returns the capacity in bytes for the other items of a list, if they are about as long as this
+/// one.
 fn capacity_for(count: usize, len: usize) -> usize
     ensures { result ≤ 2 ^ 26 }
 {
@@ -147,7 +148,7 @@ pub fn begin_list(out: &mut Vec<u8>) -> Result<(), AllocError>
     write_piece(out, b"[")
 }
 
-/// Writes an item of a list, after a comma if it isn't the first.
+/// Writes an item of a list, after a comma if `later` is true.
 #[inline(always)]
 pub fn write_item<W: WriteJson>(out: &mut Vec<u8>, later: bool, value: &W) -> Result<(), AllocError>
     ensures { OnOk result (AppendsItem later (W.value value.now) out.old.items out.new.items) }
@@ -172,7 +173,7 @@ pub(crate) fn write_piece(out: &mut Vec<u8>, piece: &[u8]) -> Result<(), AllocEr
     out.extend_from_slice(piece)
 }
 
-/// Writes a text in quotes, with escapes.
+/// Writes a text in quotes. Characters that need it are written as escapes.
 fn write_text(out: &mut Vec<u8>, text: &str) -> Result<(), AllocError>
     ensures { OnOk result (Appends (string text.now) out.old.items out.new.items) }
 {
@@ -244,7 +245,7 @@ fn letter(byte: u8) -> u8
     }
 }
 
-/// Returns a hexadecimal digit.
+/// Returns the hexadecimal digit of a value below 16.
 fn digit(value: u8) -> u8
     requires { value < 16 }
     ensures { result ≡ digit_char value }

@@ -32,42 +32,44 @@ pub fn truth_in(value: &Value, name: &str) -> Option<bool>
     value.get(name)?.as_bool()
 }
 
-/// Returns the number of a member, or None if it isn't a whole number from 0 to 2^64-1.
+/// Returns the number of a member, or None if the member is absent or isn't a whole number from 0
+/// to 2^64-1.
 pub fn count_in(value: &Value, name: &str) -> Option<u64>
     ensures { result ≡ count_member name.now (view value.now) }
 {
     value.get(name)?.as_u64()
 }
 
-/// Returns the uri of the document in params.
+/// Returns the uri of the document in params, or None if it can't be read.
 pub fn uri_of(params: &Value) -> Option<&str>
     ensures { option_map (λ s. s.now) result ≡ document_uri (view params.now) }
 {
     params.get("textDocument")?.get("uri")?.as_str()
 }
 
-/// Returns the version of the document in params, a signed whole number of 64 bits.
+/// Returns the version of the document in params, or None if it isn't a signed whole number of 64
+/// bits.
 pub fn version_of(params: &Value) -> Option<i64>
     ensures { result ≡ document_version (view params.now) }
 {
     params.get("textDocument")?.get("version")?.as_i64()
 }
 
-/// Moves the text of the document out of params.
+/// Moves the text of the document out of params. Returns None if it can't be read.
 pub fn into_document_text(params: Value) -> Option<String>
     ensures { option_map (λ s. chars (string_bytes s)) result ≡ document_text (view params) }
 {
     into_text_in(into_member(params, "textDocument")?, "text")
 }
 
-/// Moves the text of a member out of a value.
+/// Moves the text of a member out of a value. Returns None if the member is absent or isn't a text.
 pub fn into_text_in(value: Value, name: &str) -> Option<String>
     ensures { option_map string_bytes result ≡ text_member name.now (view value) }
 {
     into_text(into_member(value, name)?)
 }
 
-/// Moves a member out of a value.
+/// Moves a member out of a value. Returns None if there is no such member.
 pub fn into_member(value: Value, name: &str) -> Option<Value>
     ensures { option_map view result ≡ get name.now (view value) }
 {
@@ -94,7 +96,8 @@ fn into_text(value: Value) -> Option<String>
     }
 }
 
-/// Reads a position: a line and a character, both whole numbers from 0 to 2^64-1.
+/// Returns the position that this value is: a line and a character, both whole numbers from 0 to
+/// 2^64-1. Returns None if it can't be read.
 pub fn position_of(value: &Value) -> Option<Position>
     ensures { result ≡ json_position (view value.now) }
 {
@@ -103,14 +106,15 @@ pub fn position_of(value: &Value) -> Option<Position>
     Some(Position { line, character })
 }
 
-/// Reads the position of a member.
+/// Returns the position of a member, or None if it can't be read.
 pub fn position_in(value: &Value, name: &str) -> Option<Position>
     ensures { result ≡ position_member name.now (view value.now) }
 {
     position_of(value.get(name)?)
 }
 
-/// Reads a range: its start and its end, in either order.
+/// Returns the range that this value is: its start and its end, in either order. Returns None if it
+/// can't be read.
 pub fn range_of(value: &Value) -> Option<Range>
     ensures { result ≡ json_range (view value.now) }
 {
@@ -119,7 +123,7 @@ pub fn range_of(value: &Value) -> Option<Range>
     Some(Range { start, end })
 }
 
-/// Reads the range of a member.
+/// Returns the range of a member, or None if it can't be read.
 pub fn range_in(value: &Value, name: &str) -> Option<Range>
     ensures { result ≡ range_member name.now (view value.now) }
 {

@@ -36,8 +36,8 @@ pub enum ClientNotification {
     Other,
 }
 
-/// Reads a notification by its method, and moves its texts out of the params. The only error is a
-/// failed allocation.
+/// Returns the notification with this method. Its texts are moved out of the params. The only error
+/// is a failed allocation.
 pub fn notice(alloc: Global, method: &str, params: Value) -> Result<ClientNotification, RpcFault>
     ensures { ReportsAs method.now (view params) result }
 {

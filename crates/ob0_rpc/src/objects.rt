@@ -22,7 +22,7 @@ pub fn first_member<W: WriteJson>(
     value.write(out)
 }
 
-/// Writes a comma and a further member of an object.
+/// Writes a comma and another member of an object.
 #[inline(always)]
 pub fn next_member<W: WriteJson>(out: &mut Vec<u8>, name: &str, value: &W) -> Result<(), AllocError>
     ensures { OnOk result

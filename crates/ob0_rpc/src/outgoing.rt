@@ -1,4 +1,4 @@
-//! The messages that a server sends (JSON-RPC 2.0), as types.
+//! Defines the messages that a server sends (JSON-RPC 2.0), as types.
 ghost use Rattle.std.specs.Prelude.{◌≤◌, IfOk, option_map};
 ghost use Rattle.serde_json.specs.Data.{depth};
 ghost use Rattle.ob0_rpc.specs.Shapes.{result_message, error_message, notification_message, error_value};
@@ -28,7 +28,7 @@ impl<'a, W: WriteJson> WriteJson for Response<'a, W> {
     }
 }
 
-/// The reason why a request is refused.
+/// The error in a refusal: its code and its message.
 #[derive(Drop)]
 pub struct ResponseError<'a> {
     pub code: i32,
@@ -64,7 +64,7 @@ impl<'a> WriteJson for ErrorResponse<'a> {
     }
 }
 
-/// A notification.
+/// A notification that the server sends.
 #[derive(Drop)]
 pub struct Notification<'a, W> {
     pub method: &'a str,
@@ -102,7 +102,8 @@ impl<'a> WriteJson for &'a Id {
     }
 }
 
-/// Returns the text of a message. It reads back as the message if that is nested at most 127 deep.
+/// Returns the text of a message. If the message is nested at most 127 deep, the text reads back as
+/// that message.
 pub fn content_of<W: WriteJson>(alloc: Global, message: &W) -> Result<Vec<u8>, AllocError>
     ensures { IfOk result
         (λ bytes. depth (W.value message.now) ≤ 127 → Writes (W.value message.now) bytes.items) }
@@ -112,7 +113,8 @@ pub fn content_of<W: WriteJson>(alloc: Global, message: &W) -> Result<Vec<u8>, A
     Ok(out)
 }
 
-/// Returns the answer to a request, with a value that is nested at most 126 deep.
+/// Returns the text of the answer to a request. If the value is nested at most 126 deep, the text
+/// reads back as that answer.
 pub fn result_of<W: WriteJson>(alloc: Global, id: &Id, value: &W) -> Result<Vec<u8>, AllocError>
     ensures { IfOk result (λ bytes. CanBeSent (W.value value.now)
         → Writes (result_message (id_data id.now) (W.value value.now)) bytes.items) }
@@ -120,7 +122,7 @@ pub fn result_of<W: WriteJson>(alloc: Global, id: &Id, value: &W) -> Result<Vec<
     content_of(alloc, &Response { id, result: value })
 }
 
-/// Returns the refusal of a request, or of a content that isn't a message.
+/// Returns the text of the refusal of a request, or of a content that isn't a message (id None).
 pub fn error(
     alloc: Global,
     id: Option<&Id>,
@@ -135,7 +137,8 @@ pub fn error(
     content_of(alloc, &ErrorResponse { error, id })
 }
 
-/// Returns a notification, with params that are nested at most 126 deep.
+/// Returns the text of a notification. If the params are nested at most 126 deep, the text reads
+/// back as that notification.
 pub fn notify<W: WriteJson>(alloc: Global, method: &str, params: &W) -> Result<Vec<u8>, AllocError>
     ensures { IfOk result (λ bytes. CanBeSent (W.value params.now)
         → Writes (notification_message method.now (W.value params.now)) bytes.items) }

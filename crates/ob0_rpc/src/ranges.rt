@@ -1,8 +1,8 @@
-//! Writes positions, ranges and edits. A range is built from its end backwards, so its digits are
-//! produced in their final place.
+//! Writes positions, ranges and edits. A range is built from its end backwards, so that its digits
+//! are produced in their final place.
 //!
-//! It is built in a fixed array on the stack and copied once. Appended piece by piece, each of its
-//! sixteen pieces would cost a capacity check and a copy.
+//! A range is built in a fixed array on the stack and copied once. If it were appended piece by
+//! piece, each of its sixteen pieces would cost a capacity check and a copy.
 
 ghost use Rattle.std.specs.Prelude.{◌≡◌, ◌++◌, ◌∷◌, [], ◌+◌, ◌<◌, ◌≤◌, ◌^◌, OnOk, codes, decimal, drop, length};
 ghost use Rattle.serde_json.specs.Written.{compact_text};
@@ -15,7 +15,7 @@ use itoa::write_digits;
 use ob0_text::{Edit, Position, Range};
 use std::alloc::AllocError;
 
-/// The greatest length of a range's text, together with the text around it.
+/// The number of bytes for a range's text together with the text around it, which are never longer.
 const RANGE_CAPACITY: usize = 176;
 
 impl WriteJson for Position {
@@ -46,7 +46,7 @@ impl WriteJson for Edit {
     }
 }
 
-/// Writes the part of an edit that follows its text.
+/// Writes the part of an edit that follows its new text: the range and the closing bracket.
 fn write_end_of_edit(out: &mut Vec<u8>, start: Position, end: Position) -> Result<(), AllocError>
     ensures text { OnOk result (out.new.items ≡ out.old.items
         ++ (codes "\",\"range\":" ++ (compact_text (range_value start end) ++ 125 ∷ []))) }
@@ -68,7 +68,8 @@ fn write_range(out: &mut Vec<u8>, start: Position, end: Position) -> Result<(), 
     write_piece(out, &buffer[at..])
 }
 
-/// Puts a range's text before a place in the buffer, and returns the place at which it begins.
+/// Writes a range's text into the buffer so that it ends at the index `at`. Returns the index at
+/// which the text begins.
 pub fn range_before(buffer: &mut [u8], at: usize, start: Position, end: Position) -> usize
     requires { (160 ≤ at) × (at ≤ length buffer.old) }
     ensures within { (at ≤ result + 160) × (result ≤ at) }
@@ -83,7 +84,8 @@ pub fn range_before(buffer: &mut [u8], at: usize, start: Position, end: Position
     piece_before(buffer, at_end, b"{\"end\":")
 }
 
-/// Puts a position's text before a place in the buffer, and returns the place at which it begins.
+/// Writes a position's text into the buffer so that it ends at the index `at`. Returns the index at
+/// which the text begins.
 fn position_before(buffer: &mut [u8], at: usize, position: Position) -> usize
     requires { (62 ≤ at) × (at ≤ length buffer.old) }
     ensures within { (at ≤ result + 62) × (result ≤ at) }
@@ -98,8 +100,8 @@ fn position_before(buffer: &mut [u8], at: usize, position: Position) -> usize
     piece_before(buffer, at_character, b"{\"character\":")
 }
 
-/// Puts a whole number's digits before a place in the buffer, and returns the place at which they
-/// begin.
+/// Writes a whole number's digits into the buffer so that they end at the index `at`. Returns the
+/// index at which they begin.
 #[inline(always)]
 fn count_before(buffer: &mut [u8], at: usize, count: u64) -> usize
     requires { (20 ≤ at) × (at ≤ length buffer.old) }
@@ -110,7 +112,8 @@ fn count_before(buffer: &mut [u8], at: usize, count: u64) -> usize
     write_digits(count, buffer, at)
 }
 
-/// Puts a piece of text before a place in the buffer, and returns the place at which it begins.
+/// Writes a piece of text into the buffer so that it ends at the index `at`. Returns the index at
+/// which the piece begins.
 #[inline(always)]
 pub fn piece_before(buffer: &mut [u8], at: usize, piece: &[u8]) -> usize
     requires { (length piece.now ≤ at) × (at ≤ length buffer.old) }

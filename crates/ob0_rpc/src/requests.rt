@@ -41,7 +41,7 @@ pub enum ClientRequest {
     CodeAction {
         uri: String,
         range: Range,
-        /// The requested kinds of actions, if there are any.
+        /// The requested kinds of actions, or None if all kinds are requested.
         only: Option<Vec<String>>,
     },
     Formatting {
@@ -50,8 +50,8 @@ pub enum ClientRequest {
     },
 }
 
-/// Reads a request by its method. The params of `initialize` must be an object; `shutdown` accepts
-/// any params.
+/// Returns the request with this method and these params. The params of `initialize` must be an
+/// object; `shutdown` accepts any params.
 pub fn request(alloc: Global, method: &str, params: &Value) -> Result<ClientRequest, RpcFault>
     ensures { Requests (request_by_method method.now (view params.now)) result }
 {
@@ -205,7 +205,8 @@ fn includes_declaration(params: &Value) -> Option<bool>
     truth_in(params.get("context")?, "includeDeclaration")
 }
 
-/// Reads the indentation from formatting options.
+/// Returns the indentation that the formatting options in params request, or None if they can't be
+/// read.
 fn indent_of(params: &Value) -> Option<Indent>
     ensures { result ≡ option_and_then indent_in (get (codes "options") (view params.now)) }
 {
@@ -219,14 +220,16 @@ fn indent_of(params: &Value) -> Option<Indent>
     })
 }
 
-/// Returns the number of spaces in a level if this many are requested: from 1 to [`MAX_INDENT`].
+/// Returns the number of spaces in a level if `size` are requested: at least 1 and at most
+/// [`MAX_INDENT`].
 fn spaces_of(size: u64) -> u8
     ensures { result ≡ level_spaces size }
 {
     size.min(MAX_INDENT as u64).max(1) as u8
 }
 
-/// Returns the kinds that a context requests, or None if the context can't be read.
+/// Returns the kinds that a context requests. `Some(None)` means that all kinds are requested, and
+/// `None` that they can't be read.
 fn kinds_of(
     alloc: Global,
     context: Option<&Value>,

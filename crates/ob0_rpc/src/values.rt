@@ -1,4 +1,4 @@
-//! Messages with a result or params that are a `Value`.
+//! Writes messages whose result or params are a `Value`.
 ghost use Rattle.std.specs.Prelude.{◌≡◌, ◌≤◌, false, IfOk};
 ghost use Rattle.serde_json.specs.Data.{depth};
 ghost use Rattle.serde_json.specs.View.{view};
@@ -11,8 +11,8 @@ use crate::incoming::Id;
 use serde_json::{Value, json};
 use std::alloc::{AllocError, Global};
 
-/// Returns the answer to a request, with a value that is nested at most 126 deep and has only whole
-/// numbers.
+/// Returns the text of the answer to a request. The text reads back as that answer if the value is
+/// nested at most 126 deep and has only whole numbers.
 pub fn result(alloc: Global, id: &Id, value: Value) -> Result<Vec<u8>, AllocError>
     ensures { IfOk result (λ bytes. has_float (view value) ≡ false
         → CanBeSent (view value)
@@ -22,8 +22,8 @@ pub fn result(alloc: Global, id: &Id, value: Value) -> Result<Vec<u8>, AllocErro
     text_of(alloc, &message)
 }
 
-/// Returns a notification, with params that are nested at most 126 deep and have only whole
-/// numbers.
+/// Returns the text of a notification. The text reads back as that notification if the params are
+/// nested at most 126 deep and have only whole numbers.
 pub fn notification(alloc: Global, method: &str, params: Value) -> Result<Vec<u8>, AllocError>
     ensures { IfOk result (λ bytes. has_float (view params) ≡ false
         → CanBeSent (view params)

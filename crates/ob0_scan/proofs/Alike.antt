@@ -1,5 +1,5 @@
--- If the new tokens have the same kinds as the ones that they replace, the whole text has tokens of
--- the same kinds.
+-- Proves that all tokens of the text have the same kinds as before, if the new tokens have the
+-- kinds of the ones that they replace.
 use Rattle.std.proofs.Common.{◌≡◌, ℕ, ◌+◌, ◌-◌, ◌≤◌, List, [], ◌∷◌, ◌++◌, map, take, drop, refl, sym, ap, ◌∙◌, arith}
 use Rattle.std.proofs.lemmas.List.{take-append-drop, drop-drop}
 use Rattle.ob0_scan.specs.declared.lexeme.Token.{Token}

@@ -1,4 +1,4 @@
--- The places of the tokens and of the comments among lexemes: the facts that both share.
+-- Proves the facts about the places of tokens and comments among lexemes that both share.
 use Rattle.std.proofs.Common.{◌≡◌, ◌≢◌, ℕ, suc, ◌+◌, ◌-◌, ◌<◌, ◌≤◌, Bool, true, false, List, [], ◌∷◌, ◌++◌, length, map, take, drop, refl, sym, ap, ap₂, ◌∙◌, subst, arith, ◌⊎◌, inl, inr, ⊎_elim, append_assoc, length-append, add-zero, ltb, eqb, eqb-true, eq-eqb}
 use Rattle.std.specs.List.{All, prefix_len}
 use Rattle.std.proofs.Math.Seq.{drop-append_seam, take-append_seam}
@@ -14,7 +14,8 @@ use Rattle.ob0_scan.specs.Scanned.{span_from, token_at, comment_at, tokens_from,
 use Rattle.ob0_scan.specs.Reused.{move_span, moved_token}
 use Rattle.ob0_scan.proofs.Cuts.{nonempty}
 
--- a kind of item that lexemes have: each lexeme has at most one, at the lexeme's place
+-- A kind of item that lexemes have, such as tokens or comments. Each lexeme has at most one, at the
+-- lexeme's place.
 pub record AtLexemes (X : Type 0) : Type 0 where
   pub span : X → Span
   pub head : ℕ → Lexeme → List X
@@ -53,7 +54,7 @@ of_comments = record {
   one = λ s l. comment_one l.kind (span_from s (length l.text));
 }
 
--- each lexeme has at least one byte
+-- Holds if each lexeme has at least one byte.
 abbrev pub Full : List Lexeme → Type 0
 Full [] = Unit {0}
 Full (l ∷ ls) = (0 < length l.text) × Full ls
@@ -66,7 +67,7 @@ pub full_parts : (xs ys : List Lexeme) → Full (xs ++ ys) → Full xs × Full y
 full_parts [] ys h = (tt, h)
 full_parts (x ∷ xs) ys h = let more = full_parts xs ys h.1 in ((h.0, more.0), more.1)
 
--- the span lies between two places and isn't empty
+-- Holds if the span isn't empty and lies between the places `low` and `high`.
 pub record Lies (low high : ℕ) (s : Span) : Type 0 where
   pub starts : low ≤ s.start
   pub some : s.start < s.end
@@ -99,7 +100,7 @@ all-append g s (x ∷ xs) ys =
     ∙ sym (append_assoc (g.head s x) (g.all (s + length x.text) xs) (g.all (s + length (joined (x ∷ xs))) ys))
     ∙ ap (λ t. t ++ g.all (s + length (joined (x ∷ xs))) ys) (sym (g.step s x xs))
 
--- leading items that pass a test
+-- If no item passes the test, the number of leading items that pass is 0.
 pub none_pass : {X : Type 0} (q : X → Bool) (xs : List X) → All (λ x. q x ≡ false) xs → prefix_len q xs ≡ 0
 none_pass q [] h = refl
 none_pass q (x ∷ xs) h = cond-false (q x) (1 + prefix_len q xs) 0 (All-head (λ x. q x ≡ false) x xs h)
@@ -113,7 +114,8 @@ front_passes q (x ∷ xs) ys h e =
 not_below : (a b : ℕ) → b ≤ a → ltb a b ≡ false
 not_below a b h = false_from_ne_true (ltb a b) (λ e. absurd (omega (arith, ltb-true a b e)))
 
--- the items that begin at or after the end of some lexemes are the items of the later lexemes
+-- The items without the leading ones that begin before the end of the lexemes xs are the items of
+-- the later lexemes ys.
 pub back_split : {X : Type 0} (g : AtLexemes X) (s place : ℕ) (xs ys : List Lexeme) → Full xs → Full ys → s + length (joined xs) ≡ place → drop (prefix_len (λ x. ltb (g.span x).start place) (g.all s (xs ++ ys))) (g.all s (xs ++ ys)) ≡ g.all place ys
 back_split {X} g s place xs ys f h e =
     let q : X → Bool = λ x. ltb (g.span x).start place in
@@ -124,7 +126,8 @@ back_split {X} g s place xs ys f h e =
     ∙ ap (λ n. drop n (g.all s xs ++ g.all place ys)) (front_passes q (g.all s xs) (g.all place ys) front (none_pass q (g.all place ys) back))
     ∙ drop-append_seam (g.all s xs) (g.all place ys)
 
--- the items that end before a place are the items of the lexemes that end before it
+-- The leading items that end before a place are the items of the lexemes xs that end before that
+-- place.
 pub front_split : {X : Type 0} (g : AtLexemes X) (s at place : ℕ) (xs ys : List Lexeme) → Full xs → (0 < length xs → s + length (joined xs) < place) → s + length (joined xs) ≡ at → prefix_len (λ x. ltb (g.span x).end place) (g.all at ys) ≡ 0 → take (prefix_len (λ x. ltb (g.span x).end place) (g.all s (xs ++ ys))) (g.all s (xs ++ ys)) ≡ g.all s xs
 front_split {X} g s at place xs ys f near e none =
     let q : X → Bool = λ x. ltb (g.span x).end place in
@@ -138,7 +141,7 @@ front_split {X} g s at place xs ys f near e none =
           let close = near (omega arith) in
           All-weaker (λ x. Lies s (s + length (joined (z ∷ zs))) (g.span x)) (λ x. ltb (g.span x).end place ≡ true) (λ x w. lt-ltb (g.span x).end place (omega (arith, w.ends, close))) (g.all s (z ∷ zs)) (lies g s (z ∷ zs) f)
 
--- if the first lexeme ends at or after a place, no item ends before it
+-- If the first lexeme ends at or after a place, no leading item ends before the place.
 pub none_end : {X : Type 0} (g : AtLexemes X) (place s : ℕ) (l : Lexeme) (ls : List Lexeme) → Full (l ∷ ls) → place ≤ s + length l.text → prefix_len (λ x. ltb (g.span x).end place) (g.all s (l ∷ ls)) ≡ 0
 none_end {X} g place s l ls f far =
     let P : X → Type 0 = λ x. ltb (g.span x).end place ≡ false in
@@ -147,7 +150,7 @@ none_end {X} g place s l ls f far =
     (head_all g P s l (λ x e. subst (λ (v : Span). ltb v.end place ≡ false) (sym e) (not_below (s + length l.text) place far)))
     (All-weaker (λ x. Lies (s + length l.text) (s + length l.text + length (joined ls)) (g.span x)) P (λ x w. not_below (g.span x).end place (omega (arith, w.starts, w.some))) (g.all (s + length l.text) ls) (lies g (s + length l.text) ls f.1))))
 
--- a place between two of the lexemes
+-- Holds if the place is between two of the lexemes, or at the beginning or end of them.
 pub record Border (s : ℕ) (ls : List Lexeme) (place : ℕ) : Type 0 where
   pub front : List Lexeme
   pub back : List Lexeme
@@ -171,12 +174,12 @@ begin_at_borders {X} g s (l ∷ ls) =
     (head_all g P s l (λ x e. record { front = []; back = l ∷ ls; split = refl; at = add-zero s ∙ sym (ap (λ (v : Span). v.start) e) }))
     (All-weaker (λ x. Border (s + length l.text) ls (g.span x).start) P (λ x b. further_border s (g.span x).start l ls b) (g.all (s + length l.text) ls) (begin_at_borders g (s + length l.text) ls)))
 
--- items in the order in which they begin
+-- Holds if each item begins before all later ones.
 abbrev pub Ascending : {X : Type 0} → (X → ℕ) → List X → Type 0
 Ascending start [] = Unit {0}
 Ascending start (x ∷ xs) = All (λ y. start x < start y) xs × Ascending start xs
 
--- the key of a span is less than the key of every later span
+-- Holds if the key of a non-empty span is less than the key of every later span.
 abbrev pub ComesAfter : (Span → ℕ) → Type 0
 ComesAfter key = (s n high : ℕ) (v : Span) → 0 < n → Lies (s + n) high v → key (span_from s n) < key v
 
@@ -199,7 +202,7 @@ ascending g key after s (l ∷ ls) h = subst (Ascending (λ x. key (g.span x))) 
     (ascending_head g key after s (s + length l.text + length (joined ls)) l (g.all (s + length l.text) ls) h.0 (lies g (s + length l.text) ls h.1)
     (ascending g key after (s + length l.text) ls h.1))
 
--- the items after the leading ones that begin before a place
+-- Returns the items without the leading ones that begin before a place.
 abbrev pub back_of : {X : Type 0} → (X → ℕ) → ℕ → List X → List X
 back_of start place xs = drop (prefix_len (λ x. ltb (start x) place) xs) xs
 
@@ -219,8 +222,8 @@ back_again start near far (x ∷ xs) h = ⊎_elim
     (λ following. ap (back_of start far) (back_here start near x xs following))
     (cases_lt (start x) near)
 
--- in ascending order, the items after the leading ones that begin before a place all begin there or
--- later
+-- If the items ascend, all items without the leading ones that begin before a place begin there or
+-- later.
 pub back_later : {X : Type 0} (start : X → ℕ) (place : ℕ) (xs : List X) → Ascending start xs → All (λ x. place ≤ start x) (back_of start place xs)
 back_later start place [] h = All-nil (λ x. place ≤ start x)
 back_later {X} start place (x ∷ xs) h = ⊎_elim
@@ -229,7 +232,8 @@ back_later {X} start place (x ∷ xs) h = ⊎_elim
     (All-cons (λ y. place ≤ start y) x xs following (All-weaker (λ y. start x < start y) (λ y. place ≤ start y) (λ y later. omega (arith, following, later)) xs h.0)))
     (cases_lt (start x) place)
 
--- the items before the first that fails a test all pass it
+-- If the items before the first one that fails a test all pass it, that also holds with one more
+-- item in front.
 front_more : {X : Type 0} (q : X → Bool) (x : X) (xs : List X) (b : Bool) → q x ≡ b → All (λ y. q y ≡ true) (take (prefix_len q xs) xs) → All (λ y. q y ≡ true) (take (prefix_len q (x ∷ xs)) (x ∷ xs))
 front_more q x xs true e more = All-same (λ y. q y ≡ true) (take (prefix_len q (x ∷ xs)) (x ∷ xs)) (x ∷ take (prefix_len q xs) xs) (ap (λ n. take n (x ∷ xs)) (cond-true (q x) (1 + prefix_len q xs) 0 e ∙ one_more (prefix_len q xs)))
     (All-cons (λ y. q y ≡ true) x (take (prefix_len q xs) xs) e more)
@@ -239,7 +243,7 @@ pub front_all : {X : Type 0} (q : X → Bool) (xs : List X) → All (λ x. q x �
 front_all q [] = All-nil (λ x. q x ≡ true)
 front_all q (x ∷ xs) = front_more q x xs (q x) refl (front_all q xs)
 
--- true if the first item begins at a place
+-- Returns true if the first item begins at this place.
 abbrev pub first_at : {X : Type 0} → (X → ℕ) → ℕ → List X → Bool
 first_at start place [] = false
 first_at start place (x ∷ xs) = eqb (start x) place
@@ -261,7 +265,7 @@ at_first start P place (x ∷ xs) e h = subst P (eqb-true (start x) place e) (Al
 abbrev make_span : ℕ → ℕ → Span
 make_span start end = record { start = start; end = end }
 
--- moving lexemes moves their tokens and comments by the same distance
+-- Moving a lexeme moves its span by the same distance.
 module _ (removed added : ℕ) where
   moved_span : (at place n : ℕ) → at + removed ≡ place + added → removed ≤ place → span_from at n ≡ move_span removed added (span_from place n)
   moved_span at place n e h =

@@ -1,4 +1,4 @@
--- The tokens and comments that are read again, between the reused ones.
+-- Proves facts about the tokens and comments that are read again, between the reused ones.
 use Rattle.std.proofs.Common.{◌≡◌, ℕ, ◌+◌, ◌-◌, ◌≤◌, Bool, true, false, ◌||◌, List, [], ◌∷◌, ◌++◌, length, map, refl, sym, ap, ap₂, ◌∙◌, subst, arith, ◌⊎◌, inl, inr, ⊎_elim, append_assoc, append-nil, length-drop}
 use Rattle.std.specs.List.{All}
 use Rattle.std.proofs.lemmas.List.Elements.{All-nil, All-same, All-append, All-drop}
@@ -71,7 +71,7 @@ module _ (old : Scanned) (o : IsScan old) where
       (All-drop (λ (c : Span). Border 0 o.lexemes c.start) _ old.comments (All-same (λ (c : Span). Border 0 o.lexemes c.start) old.comments (comments_from 0 o.lexemes) o.comments (begin_at_borders of_comments 0 o.lexemes)))
 
   module _ (new : List ℕ) (from removed added : ℕ) (r : IsReplaced old.text new from removed added) where
-    -- the end of the new text corresponds to the end of the old one
+    -- The end of the new text corresponds to the end of the old one.
     pub end_place : (at : ℕ) → at ≡ length new → at + removed - added ≡ length old.text
     end_place at e =
         let same : length old.text - (from + removed) ≡ length new - (from + added) = sym (length-drop (from + removed) old.text) ∙ ap length r.following ∙ length-drop (from + added) new in
@@ -98,7 +98,8 @@ module _ (old : Scanned) (o : IsScan old) where
         (ap₂ (λ ts cs. token_begins (at + removed - added) ts || comment_begins (at + removed - added) cs) (sym m.tokens_are) (sym m.comments_are) ∙ begins)))
         m.border
 
--- the kept, newly read and reused tokens and comments
+-- The old tokens and comments before the change, the newly read ones and the later old ones
+-- together meet `Reuses`.
 pub reused : (old new : Scanned) (from removed added : ℕ) (s t : Scanner) (tokens : List Token) (comments : List Span) (end : ℕ) (fs : List Token) (gs : List Span) → fs ≡ tokens_before_change from old.tokens → gs ≡ comments_before_change from old.comments → s.tokens.items ≡ [] → s.comments.items ≡ []
     → ReadsOn old from removed added s t → IsMet old end from removed added t.at tokens comments
     → new.tokens ≡ (fs ++ t.tokens.items) ++ map (moved_token removed added) tokens → new.comments ≡ (gs ++ t.comments.items) ++ map (move_span removed added) comments
@@ -118,8 +119,8 @@ reused old new from removed added s t tokens comments end fs gs ft fc st sc r m 
       comments_new = r.comments_new;
     }
 
--- facts about a scanner that stopped without a fault, and about the remaining old tokens and
--- comments
+-- Holds if the scanner t has stopped without error, and its tokens and comments can be completed
+-- with the remaining old ones, shifted, to a scan of the new text.
 pub record Settled (old : Scanned) (new : List ℕ) (from removed added : ℕ) (t : Scanner) (tokens : List Token) (comments : List Span) : Type 0 where
   pub met : IsMet old (length new) from removed added t.at tokens comments
   pub tokens_move : All (λ (x : Token). IsMovable removed added x.span) tokens

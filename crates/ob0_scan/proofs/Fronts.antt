@@ -1,5 +1,5 @@
--- The lexemes that end before a place, without white space at their end; and the end of the last of
--- them.
+-- Finds the lexemes that end before a place, without white space at their end, and proves at which
+-- place the last of them ends.
 use Rattle.std.proofs.Common.{◌≡◌, ◌≢◌, ℕ, ◌+◌, ◌-◌, ◌<◌, ◌≤◌, List, [], ◌∷◌, ◌++◌, length, max, refl, sym, ap, ap₂, ◌∙◌, subst, arith, ◌⊎◌, inl, inr, ⊎_elim, append-nil, length-append, add-zero, ltb, Some}
 use Rattle.std.specs.List.{All, prefix_len, slice_get}
 use Rattle.std.proofs.lemmas.List.{length_push}
@@ -21,7 +21,7 @@ space_or_not lexeme.Space = inl refl
 space_or_not lexeme.Comment = inr (λ e. cc)
 space_or_not (lexeme.Token k) = inr (λ e. cc)
 
--- the last of the lexemes isn't white space
+-- Holds if the list isn't empty and its last lexeme isn't white space.
 pub record Last (ls : List Lexeme) : Type 0 where
   pub init : List Lexeme
   pub last : Lexeme
@@ -56,7 +56,7 @@ module _ (place s : ℕ) (l : Lexeme) (ls : List Lexeme) where
   no_bytes : (r : Front place (s + length l.text) ls) → r.front ≡ [] → s + length l.text ≡ r.at
   no_bytes r e = let none : length (joined r.front) ≡ 0 = ap (λ t. length (joined t)) e in omega (arith, r.at_is, none)
 
-  -- before an empty front, white space leaves the front empty
+  -- If the front has no lexeme, white space in front leaves it empty.
   blank : (r : Front place (s + length l.text) ls) → r.front ≡ [] → l.kind ≡ lexeme.Space → Front place s (l ∷ ls)
   blank r e white =
       let rest : ls ≡ r.back = r.split ∙ ap (λ t. t ++ r.back) e in

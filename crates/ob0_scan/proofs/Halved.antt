@@ -1,4 +1,5 @@
--- The tokens and comments of a scan are in order, so binary search finds the ones before a place.
+-- Proves that the tokens and comments of a scan are in order, so that binary search finds the ones
+-- before a place.
 use Rattle.std.proofs.Common.{◌≡◌, ℕ, zero, suc, ◌<◌, ◌≤◌, Bool, true, false, List, [], ◌∷◌, length, get_or, sym, subst, arith}
 use Rattle.std.specs.List.{prefix_len}
 use Rattle.std.specs.List.Sorted.{IsNonDecreasingBy, IsPartitionPoint}
@@ -27,7 +28,7 @@ in_order s o =
       comments_end = rising (λ (c : Span). c.end) s.comments (subst (Ascending (λ (c : Span). c.end)) (sym o.comments) (ascending of_comments (λ (v : Span). v.end) ends_after 0 o.lexemes some));
     }
 
--- binary search splits a list at the first item that fails the test
+-- The partition point of a test is the number of leading items that pass it.
 pub point_is_count : {X : Type 0} (p : X → Bool) (xs : List X) (i : ℕ) → i ≤ length xs → IsPartitionPoint (λ y. p y ≡ true) (λ y. p y ≡ false) xs i → i ≡ prefix_len p xs
 point_is_count p [] i inside point = omega (arith, inside)
 point_is_count p (x ∷ xs) i inside point = sym (prefix_len_is p (x ∷ xs) i x inside (λ k less. point.0 k x (omega arith) less) (λ less. point.1 i x (omega arith) less))

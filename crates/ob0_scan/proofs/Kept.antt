@@ -1,4 +1,5 @@
--- The old tokens and comments that a changed text still has, and the ones between them.
+-- Proves facts about the old tokens and comments that a changed text still has, and the ones
+-- between them.
 use Rattle.std.proofs.Common.{◌≡◌, ℕ, zero, suc, ◌+◌, ◌-◌, ◌<◌, ◌≤◌, get_or, set, Bool, true, false, cond, List, [], ◌∷◌, ◌++◌, length, map, take, drop, refl, sym, ap, ap₂, ◌∙◌, subst, arith, append_assoc, length-drop, length-take-le, take-append-drop, drop_at, ltb}
 use Rattle.std.specs.List.{All, prefix_len, splice}
 use Rattle.std.proofs.lemmas.List.{take-append-le, set-append_right, get_or-append_right}
@@ -22,13 +23,13 @@ longer_count true true n m h less = omega (arith, less)
 longer_count true false n m h less = let clash : false ≡ true = h refl in cc
 longer_count false d n m h less = omega arith
 
--- a test that passes whenever another does passes at least as many leading items
+-- If q passes whenever p does, at least as many leading items pass q as pass p.
 longer_prefix : {X : Type 0} (p q : X → Bool) (xs : List X) → All (λ x. p x ≡ true → q x ≡ true) xs → prefix_len p xs ≤ prefix_len q xs
 longer_prefix p q [] a = omega arith
 longer_prefix p q (x ∷ xs) a =
     longer_count (p x) (q x) (prefix_len p xs) (prefix_len q xs) (All-head (λ y. p y ≡ true → q y ≡ true) x xs a) (longer_prefix p q xs (All-tail (λ y. p y ≡ true → q y ≡ true) x xs a))
 
--- an item that ends before a place begins before any later place
+-- At most as many leading items end before a place as begin before the same or a later place.
 apart : {X : Type 0} (g : AtLexemes X) (from place : ℕ) (ls : List Lexeme) → Full ls → from ≤ place → prefix_len (λ x. ltb (g.span x).end from) (g.all 0 ls) ≤ prefix_len (λ x. ltb (g.span x).start place) (g.all 0 ls)
 apart g from place ls f less =
     let high : ℕ = 0 + length (joined ls) in
@@ -36,7 +37,7 @@ apart g from place ls f less =
     (All-weaker (λ x. Lies 0 high (g.span x)) (λ x. ltb (g.span x).end from ≡ true → ltb (g.span x).start place ≡ true)
     (λ x w e. lt-ltb (g.span x).start place (omega (arith, w.some, less, ltb-true (g.span x).end from e))) (g.all 0 ls) (lies g 0 ls f))
 
--- a front and a back of a list, given by their lengths
+-- Holds if `fs` are the first n items of the list, and `rs` are the items starting at index m.
 record Parts {X : Type 0} (xs fs rs : List X) (n m : ℕ) : Type 0 where
   pub ordered : n ≤ m
   pub inside : m ≤ length xs
@@ -72,7 +73,7 @@ module _ (old : Scanned) (o : IsScan old) (new : List ℕ) (from removed added :
       (subst (λ (xs : List Span). prefix_len (λ (x : Span). ltb x.end from) xs ≤ prefix_len (λ (x : Span). ltb x.start place) xs) (sym o.comments) less)
       ef w.met.comments_are en em
 
-  -- the items that a scanner read after the front lie between the reused ones
+  -- The items that a scanner has read after the front are between the reused ones.
   pub lies_between : fs ≡ tokens_before_change from old.tokens → gs ≡ comments_before_change from old.comments → t.front.tokens.now ≡ fs → t.front.comments.now ≡ gs → s.tokens.items ≡ [] → s.comments.items ≡ []
       → ReadsOn old from removed added s t → Settled old new from removed added t rs qs
       → b.front.tokens ≡ length fs → b.following.tokens ≡ length old.tokens - length rs → b.front.comments ≡ length gs → b.following.comments ≡ length old.comments - length qs
@@ -115,7 +116,7 @@ unchanged_there f [] i d less = absurd (omega (arith, less))
 unchanged_there f (x ∷ xs) zero d less = refl
 unchanged_there f (x ∷ xs) (suc i) d less = unchanged_there f xs i d (omega (arith, less))
 
--- a list whose items between two places are changed
+-- Holds if `now` is the list xs with f applied to the items from index `first` up to index `at`.
 pub record ChangedTo {X : Type 0} (f : X → X) (xs : List X) (first at : ℕ) (now : List X) : Type 0 where
   pub following : first ≤ at
   pub inside : at ≤ length xs
@@ -144,7 +145,7 @@ module _ {X : Type 0} (f : X → X) (xs : List X) (first : ℕ) (some : first �
           ∙ ap (λ ys. take first xs ++ ys) (changed_there f (drop first xs) (at - first) (at + 1 - first) d v further (omega (arith, c.following)) (w ∙ ap f still));
     }
 
--- inserts other items between a front and a back of a list
+-- Replacing the items between two indexes of a list gives its front, the new items and its back.
 pub put_between : {X : Type 0} (xs ys zs us vs now : List X) (front following : ℕ) → front ≤ following → following ≤ length xs → ys ≡ take following xs ++ zs → now ≡ splice ys front following vs → vs ≡ us → now ≡ take front xs ++ (us ++ zs)
 put_between xs ys zs us vs now front following less inside e s b =
     let long : length (take following xs) ≡ following = length-take-le following xs inside in

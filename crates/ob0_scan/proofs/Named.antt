@@ -1,5 +1,5 @@
--- If the new tokens have the same spelling as the ones that they replace, all tokens of the text
--- have the same spelling: its identifiers, and all its words.
+-- Proves that the tokens and the identifiers of the whole text have the same spellings as before,
+-- if the new tokens have the spellings of the ones that they replace.
 use Rattle.std.proofs.Common.{◌≡◌, ℕ, ◌+◌, ◌-◌, ◌≤◌, List, [], ◌∷◌, ◌++◌, map, take, drop, length, refl, sym, ap, ap₂, ◌∙◌, arith, append_assoc, length-append, ⊎_elim}
 use Rattle.std.specs.List.{All}
 use Rattle.std.proofs.lemmas.List.{take-append-drop, drop-drop, drop-take, take-take, take-map, drop-map, take_at, drop_at, length-map, length-take-le}
@@ -13,7 +13,7 @@ use Rattle.ob0_scan.specs.Scanned.{Scanned, Word, spanned}
 use Rattle.ob0_scan.specs.Reused.{IsReplaced, name_of, names_in, words_in, move_span, moved_token}
 use Rattle.ob0_scan.specs.Rescanning.{IsBetween, with_between}
 
--- a part within the first bytes of a text is also that part of only those bytes
+-- A part that lies within the first n bytes of a text is the same part of those n bytes.
 in_first : (text : List ℕ) (n s w : ℕ) → w ≤ n - s → take w (drop s (take n text)) ≡ take w (drop s text)
 in_first text n s w less = ⊎_elim
     (λ past.
@@ -24,7 +24,7 @@ in_first text n s w less = ⊎_elim
     ap (λ k. take w (drop s (take k text))) parts ∙ ap (take w) (drop-take s (n - s) text) ∙ take-take w (n - s) (drop s text) less)
     (cases_lt n s)
 
--- texts with the same beginning have the same parts in it
+-- Texts with the same first bytes have the same parts within them.
 in_front : (old new : List ℕ) (from : ℕ) (span : Span) → take from old ≡ take from new → span.end ≤ from → spanned new span ≡ spanned old span
 in_front old new from span same inside =
     let wide : span.end - span.start ≤ from - span.start = omega (arith, inside) in
@@ -33,7 +33,7 @@ in_front old new from span same inside =
     ∙ in_first old from span.start (span.end - span.start) wide
 
 module _ (old new : List ℕ) (from removed added : ℕ) (r : IsReplaced old new from removed added) where
-  -- the text after the change is the same, moved
+  -- A span after the change, shifted, has the same bytes in the new text as before in the old one.
   at_back : (span : Span) → from + removed ≤ span.start → spanned new (move_span removed added span) ≡ spanned old span
   at_back span later =
       let away : ℕ = span.start - (from + removed) in
@@ -45,7 +45,7 @@ module _ (old new : List ℕ) (from removed added : ℕ) (r : IsReplaced old new
         further : (text : List ℕ) (n m : ℕ) → drop (n + m) text ≡ drop m (drop n text)
         further text n m = sym (drop-drop m n text)
 
--- a value made from each token's kind and spelling
+-- Returns a value for each token, made from its kind and spelling.
 module _ {X : Type 0} (of : TokenKind → List ℕ → X) where
   abbrev pub written : List ℕ → List Token → List X
   written text tokens = map (λ (t : Token). of t.kind (spanned text t.span)) tokens
@@ -95,7 +95,7 @@ pub words_stay : (old : Scanned) (new : List ℕ) (from removed added : ℕ) (b 
     → words_in new (with_between old new removed added b).tokens ≡ words_in old.text old.tokens
 words_stay old new from removed added b r w same = written_stays (λ k text. record { kind = k; text = text }) old new from removed added b r w same
 
--- the tokens before and after the new ones have the same spelling as before
+-- The tokens before the change have the same kinds and spellings as before.
 pub front_written : (old : Scanned) (new : List ℕ) (from removed added : ℕ) (b : Between) → IsReplaced old.text new from removed added → IsBetween old new from removed added b
     → take b.front.tokens (words_in new (with_between old new removed added b).tokens) ≡ take b.front.tokens (words_in old.text old.tokens)
 front_written old new from removed added b r w =

@@ -1,4 +1,4 @@
--- The text before a change and after it has the same lexemes as before.
+-- Proves that the text before a change and the text after it have the same lexemes as before.
 use Rattle.std.proofs.Common.{◌≡◌, ℕ, ◌+◌, ◌-◌, ◌<◌, ◌≤◌, List, [], ◌∷◌, ◌++◌, length, map, get_or, take, drop, refl, sym, ap, ap₂, ◌∙◌, subst, arith, ⊎_elim, append_assoc, append-nil, length-append, length-take-le, take-append-drop, drop_at, take_at, drop-drop, get_or-take, get_or-drop, add-zero, IsUtf8, IsCharBoundary}
 use Rattle.std.specs.List.{All}
 use Rattle.std.proofs.lemmas.List.{take-append-le}
@@ -27,7 +27,8 @@ first_byte : (w a b : List ℕ) → get_or a 0 0 ≡ get_or b 0 0 → get_or (w 
 first_byte [] a b e = e
 first_byte (x ∷ w) a b e = refl
 
--- lexemes depend only on the first byte after them
+-- If lexemes are a cut before one text, they are a cut before any other text with the same first
+-- byte.
 same_following : (ls : List Lexeme) (a b : List ℕ) → get_or a 0 0 ≡ get_or b 0 0 → AreLexemes ls a → AreLexemes ls b
 same_following [] a b e f = tt
 same_following (l ∷ ls) a b e f =
@@ -58,7 +59,7 @@ shorter_front n m xs ys less hx hy e =
     ∙ sym (take-append-le n (take m ys) (drop m ys) (omega arith))
     ∙ ap (take n) (take-append-drop m ys)
 
--- the place up to which a text is cut is between characters
+-- The place up to which a text is cut is a character border.
 boundary_following : (text : List ℕ) (s : ℕ) (ls : List Lexeme) (after : List ℕ) → LexemesFrom text s ls after → IsCharBoundary text (s + length (joined ls))
 boundary_following text s [] after h = subst (IsCharBoundary text) (sym (add-zero s)) h.place
 boundary_following text s (l ∷ ls) after h =
@@ -72,7 +73,7 @@ reported_following {room = room} {faults = faults} s text (l ∷ ls) after f e h
     lexeme l (joined ls ++ after) f.0 (e ∙ append_assoc l.text (joined ls) after)
     (reported_following (s + length l.text) (joined ls ++ after) ls after f.1 refl (subst (λ n. FaultsFrom room n after faults) place h))
 
--- a scanner can begin after a part that is already cut
+-- If a part of a text is already cut, a scanner can begin after that part.
 pub progress_following : (text : List ℕ) (at : ℕ) (tokens : List Token) (comments : List Span) → IsUtf8 text → length text ≤ max_text → at ≤ length text → IsCutTo text at tokens comments → ScanProgress text at tokens comments []
 progress_following text at tokens comments utf8 short inside cut =
     let whole : joined cut.lexemes ++ drop at text ≡ text = ap (λ t. t ++ drop at text) cut.front ∙ take-append-drop at text in
@@ -93,8 +94,8 @@ module _ (old : Scanned) (o : IsScan old) (new : List ℕ) (from removed added :
   some_each : Full o.lexemes
   some_each = full o.lexemes [] o.lexed.each
 
-  -- The new text has the same tokens and comments as the old one up to the end of the last one
-  -- before the change.
+  -- Up to the end of the last token or comment before the change, the new text has the tokens and
+  -- comments of the old one.
   pub front_cut : (last_end (tokens_before_change from old.tokens) (comments_before_change from old.comments) ≤ length new) × IsCutTo new (last_end (tokens_before_change from old.tokens) (comments_before_change from old.comments)) (tokens_before_change from old.tokens) (comments_before_change from old.comments)
   front_cut =
       let f = find_front from 0 o.lexemes some_each in
@@ -124,7 +125,7 @@ module _ (old : Scanned) (o : IsScan old) (new : List ℕ) (from removed added :
         },
       )
 
-  -- the text after a place after the change equals the old text after the corresponding place
+  -- From a place after the change, the new text equals the old text from the corresponding place.
   same_rest : (at p : ℕ) → from + added ≤ at → at + removed ≡ p + added → drop at new ≡ drop p old.text
   same_rest at p following e =
       let k : ℕ = at - (from + added) in
@@ -132,7 +133,8 @@ module _ (old : Scanned) (o : IsScan old) (new : List ℕ) (from removed added :
       let there : from + removed + k ≡ p = omega arith in
       ap (λ n. drop n new) (sym here) ∙ sym (drop-drop k (from + added) new) ∙ ap (drop k) (sym r.following) ∙ drop-drop k (from + removed) old.text ∙ ap (λ n. drop n old.text) there
 
-  -- the lexemes after a place of the old text
+  -- At a border of the old lexemes, the later lexemes spell the rest of the old text and have its
+  -- tokens and comments.
   border_facts : (p : ℕ) (b : Border 0 o.lexemes p) → (joined b.back ≡ drop p old.text) × AreLexemes b.back [] × (back_tokens p old.tokens ≡ tokens_from p b.back) × (back_comments p old.comments ≡ comments_from p b.back) × Full b.back
   border_facts p b =
       let parts = full_parts b.front b.back (subst Full b.split some_each) in
@@ -145,8 +147,8 @@ module _ (old : Scanned) (o : IsScan old) (new : List ℕ) (from removed added :
         parts.1,
       )
 
-  -- a scan that stopped at a border of the old text continues with the old lexemes after that
-  -- border
+  -- If a scan stopped at a border of the old lexemes, it can be completed with the old tokens and
+  -- comments after that border, shifted. The result is a scan of the new text.
   pub finished : (at p : ℕ) (tokens : List Token) (comments : List Span) → IsUtf8 new → length new ≤ max_text → at ≤ length new → from + added ≤ at → at + removed ≡ p + added → IsCutTo new at tokens comments → Border 0 o.lexemes p
       → IsScan (record { text = new; tokens = tokens ++ map (moved_token removed added) (back_tokens p old.tokens); comments = comments ++ map (move_span removed added) (back_comments p old.comments) })
   finished at p tokens comments utf8 short inside following e cut b =
@@ -181,7 +183,7 @@ module _ (old : Scanned) (o : IsScan old) (new : List ℕ) (from removed added :
             (All-weaker (λ (c : Span). Lies p q c) (λ (c : Span). IsMovable removed added c) (λ c w. movable_lies p q c low most short w) (comments_from p b.back) (lies of_comments p b.back facts.4)),
       )
 
-  -- the end of the old text
+  -- The end of the old text is a border of its lexemes.
   pub end_border : Border 0 o.lexemes (length old.text)
   end_border = record { front = o.lexemes; back = []; split = sym (append-nil o.lexemes); at = omega (arith, ap length o.lexed.whole) }
 

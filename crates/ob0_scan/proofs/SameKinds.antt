@@ -1,4 +1,4 @@
--- The tokens before and after a change have the same kinds as before.
+-- Proves that the tokens before and after a change have the same kinds as before.
 use Rattle.std.proofs.Common.{◌≡◌, ℕ, ◌+◌, ◌-◌, ◌≤◌, List, ◌++◌, map, take, drop, length, sym, ap, ◌∙◌, arith, append_assoc, length-append, length-drop}
 use Rattle.std.proofs.lemmas.List.{take-map, drop-map, take_at, drop_at, length-map, length-take-le}
 use Rattle.ob0_scan.specs.declared.lexeme.Token.{Token}
@@ -7,8 +7,8 @@ use Rattle.ob0_scan.specs.Reused.{valueless, kinds, moved_token}
 use Rattle.ob0_scan.specs.SameKinds.{HasSameTokens}
 use Rattle.ob0_scan.proofs.Alike.{kinds-append, kinds-moved}
 
--- the tokens of a changed text: the old ones before the change, the new ones, and the old ones
--- after it, moved
+-- Returns the tokens of a changed text: the old ones before the change, the new ones, and the old
+-- ones after it, shifted.
 abbrev pub joined_tokens : (old between : List Token) (front following removed added : ℕ) → List Token
 joined_tokens old between front following removed added = take front old ++ (between ++ map (moved_token removed added) (drop following old))
 

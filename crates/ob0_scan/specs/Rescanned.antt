@@ -1,4 +1,4 @@
--- The result of scanning a changed text in place of the previous tokens.
+-- Defines the result of scanning a changed text in place of the previous tokens.
 -- Rule: none; for contracts of `rescan_in_place`.
 use Rattle.std.specs.Prelude.{◌≡◌, ℕ, List, true}
 use Rattle.ob0_scan.specs.declared.tokens.RescanInPlace.{RescanInPlace}
@@ -6,7 +6,8 @@ use Rattle.ob0_scan.specs.Scanned.{Scanned, IsScanOf}
 use Rattle.ob0_scan.specs.Reused.{Reuses, kinds, names_in, words_in}
 use Rattle.ob0_scan.specs.SameKinds.{HasSameTokens, HasSameWords}
 
--- the scan of the new text, with true flags about what it has in common with the old one
+-- Holds if r has the scan of the new text. A flag of r is true only if the new tokens have the
+-- kinds, the names or the words of the old ones, as the flag says.
 pub record IsRescanOf (old : Scanned) (new : List ℕ) (from removed added : ℕ) (r : RescanInPlace)
     : Type 0 where
   pub scan : IsScanOf new r.rescan.tokens

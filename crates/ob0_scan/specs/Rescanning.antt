@@ -1,4 +1,4 @@
--- The state of a scan of a changed text.
+-- Defines the state of a scan of a changed text.
 -- Rule: none; for private contracts of the scanner.
 use Rattle.std.specs.Prelude.{◌≡◌, ℕ, ◌+◌, ◌-◌, ◌<◌, ◌≤◌, ◌^◌, ◌==◌, ◌||◌, ◌⊎◌, Bool, false, List, [], ◌∷◌, ◌++◌, Option, Some, None, IsTrue, length, map, take, drop, max}
 use Rattle.std.specs.List.{All, slice_get}
@@ -11,46 +11,47 @@ use Rattle.ob0_scan.specs.declared.rescanning.Between.{Between}
 use Rattle.ob0_scan.specs.Scanned.{Scanned, IsScan, span_from, token_at, comment_at}
 use Rattle.ob0_scan.specs.Reused.{back_tokens, back_comments, move_span, moved_token, Reuses, IsNew}
 
--- the end of a token
+-- Returns the end of a token, or 0 for None.
 abbrev pub token_end : Option Token → ℕ
 token_end None = 0
 token_end (Some t) = t.span.end
 
--- the end of a comment
+-- Returns the end of a comment, or 0 for None.
 abbrev pub comment_end : Option Span → ℕ
 comment_end None = 0
 comment_end (Some c) = c.end
 
--- the end of the last token or comment, whichever ends later
+-- Returns the end of the last token or comment, whichever is later, or 0 if there is none.
 abbrev pub last_end : List Token → List Span → ℕ
 last_end tokens comments =
     max (token_end (slice_get tokens (length tokens - 1)))
     (comment_end (slice_get comments (length comments - 1)))
 
--- true if the first token begins at a place
+-- Returns true if the first token begins at this place.
 abbrev pub token_begins : ℕ → List Token → Bool
 token_begins place [] = false
 token_begins place (t ∷ tokens) = t.span.start == place
 
--- true if the first comment begins at a place
+-- Returns true if the first comment begins at this place.
 abbrev pub comment_begins : ℕ → List Span → Bool
 comment_begins place [] = false
 comment_begins place (c ∷ comments) = c.start == place
 
--- tokens and comments whose beginnings and ends don't decrease along their lists
+-- Holds if the starts and the ends of the tokens, and of the comments, don't decrease along their
+-- lists.
 pub record AreInOrder (tokens : List Token) (comments : List Span) : Type 0 where
   pub tokens_begin : IsNonDecreasingBy (λ (t : Token). t.span.start) tokens
   pub tokens_end : IsNonDecreasingBy (λ (t : Token). t.span.end) tokens
   pub comments_begin : IsNonDecreasingBy (λ (c : Span). c.start) comments
   pub comments_end : IsNonDecreasingBy (λ (c : Span). c.end) comments
 
--- a span after the change that still fits in 32 bits when it is moved
+-- Holds if the span lies after the removed bytes, and still fits in 32 bits when it is shifted.
 pub record IsMovable (removed added : ℕ) (span : Span) : Type 0 where
   pub following : removed ≤ span.start
   pub ordered : span.start ≤ span.end
   pub small : span.end + added < 2 ^ 32
 
--- a scanner that has found no fault takes exactly one lexeme
+-- Holds if the scanner s, which has found no fault, has taken exactly one lexeme to become t.
 pub record TakesOne (s t : Scanner) : Type 0 where
   pub kind : LexemeKind
   pub len : ℕ
@@ -58,7 +59,8 @@ pub record TakesOne (s t : Scanner) : Type 0 where
   pub tokens : t.tokens.items ≡ s.tokens.items ++ token_at kind (span_from s.at len)
   pub comments : t.comments.items ≡ s.comments.items ++ comment_at kind (span_from s.at len)
 
--- the scanner read tokens and comments; after the change, none begins where an old one began
+-- Holds if the scanner s has read tokens and comments to become t. None that begins after the
+-- change begins where an old one began.
 pub record ReadsOn (old : Scanned) (from removed added : ℕ) (s t : Scanner) : Type 0 where
   pub tokens : List Token
   pub comments : List Span
@@ -67,8 +69,8 @@ pub record ReadsOn (old : Scanned) (from removed added : ℕ) (s t : Scanner) : 
   pub tokens_new : All (λ (t : Token). IsNew old from removed added t.span) tokens
   pub comments_new : All (λ (c : Span). IsNew old from removed added c) comments
 
--- a place after the change at which the text ends or an old token or comment begins, with the old
--- ones that begin there or later
+-- Holds if `at` is a place after the change at which the text ends or an old token or comment
+-- begins. `tokens` and `comments` are the old ones that begin there or later.
 pub record IsMet (old : Scanned) (end from removed added at : ℕ) (tokens : List Token)
     (comments : List Span) : Type 0 where
   pub following : from + added ≤ at
@@ -78,8 +80,8 @@ pub record IsMet (old : Scanned) (end from removed added at : ℕ) (tokens : Lis
       ⊎ IsTrue
       (token_begins (at + removed - added) tokens || comment_begins (at + removed - added) comments)
 
--- the new text with the old tokens and comments before the change, the newly read ones, and the old
--- ones after the change, moved
+-- Returns the scan of the new text: the old tokens and comments before the change, the newly read
+-- ones, and the old ones after the change, shifted.
 abbrev pub with_between : Scanned → List ℕ → ℕ → ℕ → Between → Scanned
 with_between old new removed added b = record {
   text = new;
@@ -92,7 +94,8 @@ with_between old new removed added b = record {
       ++ map (move_span removed added) (drop b.following.comments old.comments));
 }
 
--- the newly read tokens and comments of a new text, between reused old ones
+-- Holds if b has the newly read tokens and comments of the new text, and the range of old ones that
+-- they replace.
 pub record IsBetween (old : Scanned) (new : List ℕ) (from removed added : ℕ) (b : Between)
     : Type 0 where
   pub tokens_ordered : b.front.tokens ≤ b.following.tokens

@@ -1,4 +1,4 @@
--- The tokens and comments that a scan of a changed text reuses from the previous scan.
+-- Defines which tokens and comments a scan of a changed text reuses from the previous scan.
 -- Rule: none; for contracts of `rescan`.
 use Rattle.std.specs.Prelude.{◌≡◌, ◌≢◌, ℕ, ◌+◌, ◌-◌, ◌≤◌, List, [], ◌++◌, length, map, take, drop, nat_lt}
 use Rattle.std.specs.List.{All, prefix_len}
@@ -8,80 +8,81 @@ use Rattle.ob0_scan.specs.declared.lexeme.TokenKind.{TokenKind}
 use Rattle.ob0_scan.specs.declared.lexeme.TokenKind.TheVariants as kind
 use Rattle.ob0_scan.specs.Scanned.{Scanned, Word, read_in, spanned}
 
--- The new text has `added` bytes in place of the `removed` bytes of the old text that start at
--- `from`. Before and after these bytes the two texts are equal.
+-- Holds if the new text has `added` bytes in place of the `removed` bytes of the old text that
+-- start at `from`. Before and after these bytes the two texts are equal.
 pub record IsReplaced (old new : List ℕ) (from removed added : ℕ) : Type 0 where
   pub inside_old : from + removed ≤ length old
   pub inside_new : from + added ≤ length new
   pub front : take from old ≡ take from new
   pub following : drop (from + removed) old ≡ drop (from + added) new
 
--- the kind of a token, ignoring the value of an integer
+-- Returns the kind of a token, ignoring the value of an integer.
 abbrev pub valueless : TokenKind → TokenKind
 valueless (kind.Integer value) = kind.Integer 0
 valueless k = k
 
--- the kinds of a text's tokens, in order, ignoring the values of integers
+-- Returns the kinds of the tokens, in order, ignoring the values of integers.
 abbrev pub kinds : List Token → List TokenKind
 kinds tokens = map (λ (t : Token). valueless t.kind) tokens
 
--- the spelling of an identifier; empty for any other token
+-- Returns the spelling of an identifier, or the empty text for any other kind of token.
 abbrev pub name_of : TokenKind → List ℕ → List ℕ
 name_of kind.Identifier text = text
 name_of (kind.Integer value) text = []
 name_of (kind.Reserved word) text = []
 name_of (kind.Symbol symbol) text = []
 
--- the spelling of the identifiers among a text's tokens, in order, with an empty text for each
--- other token
+-- Returns the spellings of the identifiers among a text's tokens, in order, with an empty text for
+-- each other token.
 abbrev pub names_in : List ℕ → List Token → List (List ℕ)
 names_in text tokens = map (λ (t : Token). name_of t.kind (spanned text t.span)) tokens
 
--- the tokens of a text as the grammar sees them: their kinds and spelling
+-- Returns the tokens of a text as the grammar sees them: their kinds and spellings.
 abbrev pub words_in : List ℕ → List Token → List Word
 words_in text tokens = map (read_in text) tokens
 
--- moves a span that lies after the change, by `added` less `removed`
+-- Returns a span that lies after the change, shifted by `added` less `removed`.
 abbrev pub move_span : ℕ → ℕ → Span → Span
 move_span removed added span =
     record { start = span.start + added - removed; end = span.end + added - removed }
 
--- moves a token that lies after the change
+-- Returns a token that lies after the change, shifted by `added` less `removed`.
 abbrev pub moved_token : ℕ → ℕ → Token → Token
 moved_token removed added token =
     record { kind = token.kind; span = move_span removed added token.span }
 
--- the leading tokens that end before a place
+-- Returns the leading tokens that end before a place.
 abbrev pub tokens_before_change : ℕ → List Token → List Token
 tokens_before_change place tokens = take (prefix_len (λ t. nat_lt t.span.end place) tokens) tokens
 
--- the leading comments that end before a place
+-- Returns the leading comments that end before a place.
 abbrev pub comments_before_change : ℕ → List Span → List Span
 comments_before_change place comments =
     take (prefix_len (λ c. nat_lt c.end place) comments) comments
 
--- the tokens after the leading ones that begin before a place
+-- Returns the tokens without the leading ones that begin before a place.
 abbrev pub back_tokens : ℕ → List Token → List Token
 back_tokens place tokens = drop (prefix_len (λ t. nat_lt t.span.start place) tokens) tokens
 
--- the comments after the leading ones that begin before a place
+-- Returns the comments without the leading ones that begin before a place.
 abbrev pub back_comments : ℕ → List Span → List Span
 back_comments place comments = drop (prefix_len (λ c. nat_lt c.start place) comments) comments
 
--- no token and no comment of a text begins at a place
+-- Holds if no token and no comment of the scan begins at this place.
 pub record NoOldBegins (s : Scanned) (place : ℕ) : Type 0 where
   pub tokens : All (λ (t : Token). t.span.start ≢ place) s.tokens
   pub comments : All (λ (c : Span). c.start ≢ place) s.comments
 
--- If this span begins after the change, no old token or comment began at that place.
+-- Holds if the span begins before the end of the change, or no old token or comment began at its
+-- place.
 abbrev pub IsNew : Scanned → ℕ → ℕ → ℕ → Span → Type 0
 IsNew old from removed added span =
     from + added ≤ span.start → NoOldBegins old (span.start + removed - added)
 
--- The first tokens and comments of a changed text are the old ones that end before the change. The
--- last are old ones after the change, moved. Between them are `read` tokens and comments. No one of
--- these that begins after the change begins where an old one began. So the last ones start at the
--- first place at which tokens or comments of both texts begin.
+-- Holds if the first tokens and comments of the changed text are the old ones that end before the
+-- change. The last are old ones after the change, shifted. Between them are `read` tokens and
+-- comments. If one of these begins after the change, no old token or comment began at its place. So
+-- the last ones start at the first place at which tokens or comments of both texts begin.
 pub record Reuses (old new : Scanned) (from removed added read : ℕ) : Type 0 where
   pub place : ℕ
   pub following : from + removed ≤ place

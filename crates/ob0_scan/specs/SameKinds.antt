@@ -1,4 +1,4 @@
--- The tokens of a changed text that have the same kinds and spelling as before.
+-- Defines which tokens of a changed text have the same kinds and spellings as before.
 -- Rule: none; for contracts of `rescan_in_place`.
 use Rattle.std.specs.Prelude.{◌≡◌, ◌≤◌, List, length, take, drop}
 use Rattle.ob0_scan.specs.declared.lexeme.Token.{Token}
@@ -6,8 +6,9 @@ use Rattle.ob0_scan.specs.declared.tokens.SameTokens.{SameTokens}
 use Rattle.ob0_scan.specs.Reused.{kinds, words_in}
 use Rattle.ob0_scan.specs.Scanned.{Scanned}
 
--- The first tokens of a text have the same kinds as before. The same holds for the last tokens,
--- those starting at `new_suffix`, which started at `old_suffix` before. No token is in both parts.
+-- Holds if two parts of the new tokens have the same kinds as before: the first `prefix` tokens,
+-- and the last ones, which start at `new_suffix` and started at `old_suffix` before. No token is in
+-- both parts.
 pub record HasSameTokens (s : SameTokens) (old new : List Token) : Type 0 where
   pub old_range : s.prefix ≤ s.old_suffix
   pub new_range : s.prefix ≤ s.new_suffix
@@ -16,7 +17,7 @@ pub record HasSameTokens (s : SameTokens) (old new : List Token) : Type 0 where
   pub front : take s.prefix (kinds new) ≡ take s.prefix (kinds old)
   pub back : drop s.new_suffix (kinds new) ≡ drop s.old_suffix (kinds old)
 
--- these tokens also have the same spelling as before
+-- Holds if the tokens that s describes also have the same spellings as before.
 pub record HasSameWords (s : SameTokens) (old new : Scanned) : Type 0 where
   pub front : take s.prefix (words_in new.text new.tokens)
       ≡ take s.prefix (words_in old.text old.tokens)

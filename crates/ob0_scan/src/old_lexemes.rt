@@ -1,11 +1,11 @@
-//! The tokens and comments of an older scan. Binary search finds those that end before a change,
-//! and those that begin after it. Other tokens and comments can replace the ones between them; the
-//! later spans are then shifted.
+//! Finds the tokens and comments of an older scan that end before a change, and the ones that begin
+//! after it, by binary search. Replaces the ones between them, and shifts the later spans.
 //!
 //! A scan is in order (`AreInOrder`), so binary search finds the number that the definition counts
-//! (`proofs/Halved`). A loop over indexes changes part of a `Vec` (`for index in
+//! (`proofs/Halved`). A part of a `Vec` is changed by a loop over indexes (`for index in
 //! first..items.len()`). Its invariant is `ChangedTo`: the items before the index are changed, the
-//! others aren't. After a call with `&mut items[first..]` the list would be a term without a name.
+//! others aren't. After a call with `&mut items[first..]` the proof would have no name for the
+//! list.
 
 ghost use Rattle.std.specs.Prelude.{◌≡◌, ◌+◌, ◌-◌, ◌<◌, ◌≤◌, ◌^◌, ◌||◌, ◌++◌, OnOk, length, map, take, drop, nat_lt, option_copied, string_bytes};
 ghost use Rattle.std.specs.List.{All, prefix_len};
@@ -28,7 +28,7 @@ pub(crate) struct ReplacedRange {
 }
 
 impl ReplacedRange {
-    /// Returns the old offset of a byte after the change.
+    /// Returns the offset in the old text of a byte of the new text that lies after the change.
     pub(crate) fn old_place(self, place: usize) -> usize
         requires following { self.added ≤ place }
         requires small { place + self.removed < 2 ^ 64 }
@@ -38,7 +38,8 @@ impl ReplacedRange {
     }
 
     /// Turns the old text into the new one. Only the changed bytes are written, and the bytes after
-    /// them move. If the change begins or ends inside a character, the whole new text is copied.
+    /// them move. If the change begins or ends inside a character, the whole new text is copied. If
+    /// an allocation fails, nothing is promised about `old`.
     pub(crate) fn replace(self, old: &mut String, new: &str) -> Result<(), AllocError>
         requires { IsReplaced (string_bytes old.old) new.now self.from self.removed self.added }
         ensures { OnOk result (string_bytes old.new ≡ new.now) }
@@ -55,7 +56,7 @@ impl ReplacedRange {
         old.push_str(new)
     }
 
-    /// Shifts a span that lies after the change in the old text to its place in the new text.
+    /// Returns a span that lies after the change, shifted from the old text to the new text.
     fn move_span(self, span: Span) -> Span
         requires { IsMovable self.removed self.added span }
         ensures { result ≡ move_span self.removed self.added span }
@@ -67,7 +68,7 @@ impl ReplacedRange {
     }
 }
 
-/// Some tokens and comments of a text, both in text order.
+/// Consecutive tokens and comments of a text, each in text order.
 #[derive(Clone, Copy)]
 pub(crate) struct Pieces<'t> {
     pub(crate) tokens: &'t [Token],
@@ -75,7 +76,7 @@ pub(crate) struct Pieces<'t> {
 }
 
 impl<'t> Pieces<'t> {
-    /// Returns the leading tokens and comments that end before a byte. It uses binary search.
+    /// Returns the leading tokens and comments that end before a byte offset, by binary search.
     pub(crate) fn ending_before(self, place: usize) -> Pieces<'t>
         requires { AreInOrder self.tokens.now self.comments.now }
         ensures tokens { result.tokens.now ≡ tokens_before_change place self.entry.tokens.now }
@@ -90,7 +91,8 @@ impl<'t> Pieces<'t> {
         }
     }
 
-    /// Skips the tokens and comments that begin before a byte. It uses binary search.
+    /// Returns the tokens and comments without the leading ones that begin before a byte offset, by
+    /// binary search.
     pub(crate) fn beginning_from(self, place: usize) -> Pieces<'t>
         requires { AreInOrder self.tokens.now self.comments.now }
         ensures tokens { result.tokens.now ≡ back_tokens place self.entry.tokens.now }
@@ -104,8 +106,8 @@ impl<'t> Pieces<'t> {
         }
     }
 
-    /// Skips the tokens and comments that begin before a byte. It is meant for few of them, since
-    /// it visits them one by one.
+    /// Returns the tokens and comments without the leading ones that begin before a byte offset.
+    /// The skipped ones should be few, because they are visited one by one.
     pub(crate) fn onward_to(self, place: usize) -> Pieces<'t>
         ensures tokens { result.tokens.now ≡ back_tokens place self.entry.tokens.now }
         ensures comments { result.comments.now ≡ back_comments place self.entry.comments.now }
@@ -118,7 +120,7 @@ impl<'t> Pieces<'t> {
         }
     }
 
-    /// Returns whether the first token or the first comment begins at a byte.
+    /// Returns whether the first token or the first comment begins at a byte offset.
     pub(crate) fn begin_at(self, place: usize) -> bool
         ensures { result
             ≡ token_begins place self.entry.tokens.now
@@ -127,7 +129,8 @@ impl<'t> Pieces<'t> {
         token_begins(self.tokens, place) || comment_begins(self.comments, place)
     }
 
-    /// Returns the end of the last token or comment, whichever ends later.
+    /// Returns the byte offset at which the last token or comment ends, whichever is later, or 0 if
+    /// there is none.
     pub(crate) fn end(self) -> usize
         ensures { result ≡ last_end self.entry.tokens.now self.entry.comments.now }
     {
@@ -135,7 +138,7 @@ impl<'t> Pieces<'t> {
     }
 }
 
-/// Returns whether the first token begins at a byte.
+/// Returns whether the first token begins at a byte offset.
 fn token_begins(tokens: &[Token], place: usize) -> bool
     ensures { result ≡ token_begins place tokens.now }
 {
@@ -145,7 +148,7 @@ fn token_begins(tokens: &[Token], place: usize) -> bool
     }
 }
 
-/// Returns whether the first comment begins at a byte.
+/// Returns whether the first comment begins at a byte offset.
 fn comment_begins(comments: &[Span], place: usize) -> bool
     ensures { result ≡ comment_begins place comments.now }
 {
@@ -173,7 +176,7 @@ fn comment_end(comment: Option<&Span>) -> usize
     }
 }
 
-/// Returns the number of leading tokens that end before a byte. It uses binary search.
+/// Returns the number of leading tokens that end before a byte offset, by binary search.
 fn tokens_ending_before(tokens: &[Token], place: usize) -> usize
     requires { IsNonDecreasingBy (λ (t : Token). t.span.end) tokens.now }
     ensures bound { result ≤ length tokens.now }
@@ -182,7 +185,7 @@ fn tokens_ending_before(tokens: &[Token], place: usize) -> usize
     tokens.partition_point(|token| (token.span.end as usize) < place)
 }
 
-/// Returns the number of leading comments that end before a byte. It uses binary search.
+/// Returns the number of leading comments that end before a byte offset, by binary search.
 fn comments_ending_before(comments: &[Span], place: usize) -> usize
     requires { IsNonDecreasingBy (λ (c : Span). c.end) comments.now }
     ensures bound { result ≤ length comments.now }
@@ -191,7 +194,7 @@ fn comments_ending_before(comments: &[Span], place: usize) -> usize
     comments.partition_point(|comment| (comment.end as usize) < place)
 }
 
-/// Returns the number of leading tokens that begin before a byte. It uses binary search.
+/// Returns the number of leading tokens that begin before a byte offset, by binary search.
 fn tokens_beginning_before(tokens: &[Token], place: usize) -> usize
     requires { IsNonDecreasingBy (λ (t : Token). t.span.start) tokens.now }
     ensures bound { result ≤ length tokens.now }
@@ -200,7 +203,7 @@ fn tokens_beginning_before(tokens: &[Token], place: usize) -> usize
     tokens.partition_point(|token| (token.span.start as usize) < place)
 }
 
-/// Returns the number of leading comments that begin before a byte. It uses binary search.
+/// Returns the number of leading comments that begin before a byte offset, by binary search.
 fn comments_beginning_before(comments: &[Span], place: usize) -> usize
     requires { IsNonDecreasingBy (λ (c : Span). c.start) comments.now }
     ensures bound { result ≤ length comments.now }
@@ -209,7 +212,7 @@ fn comments_beginning_before(comments: &[Span], place: usize) -> usize
     comments.partition_point(|comment| (comment.start as usize) < place)
 }
 
-/// Returns the number of leading tokens that begin before a byte. It visits them one by one.
+/// Returns the number of leading tokens that begin before a byte offset. It visits them one by one.
 fn first_tokens_before(tokens: &[Token], place: usize) -> usize
     ensures bound { result ≤ length tokens.now }
     ensures count { result ≡ prefix_len (λ (t : Token). nat_lt t.span.start place) tokens.now }
@@ -220,7 +223,8 @@ fn first_tokens_before(tokens: &[Token], place: usize) -> usize
         .count()
 }
 
-/// Returns the number of leading comments that begin before a byte. It visits them one by one.
+/// Returns the number of leading comments that begin before a byte offset. It visits them one by
+/// one.
 fn first_comments_before(comments: &[Span], place: usize) -> usize
     ensures bound { result ≤ length comments.now }
     ensures count { result ≡ prefix_len (λ (c : Span). nat_lt c.start place) comments.now }
@@ -231,7 +235,7 @@ fn first_comments_before(comments: &[Span], place: usize) -> usize
         .count()
 }
 
-/// Replaces tokens `front..following` by `between`, and shifts the spans of the later tokens.
+/// Replaces the tokens `front..following` by `between`, and shifts the spans of the later tokens.
 pub(crate) fn splice_tokens(
     tokens: &mut Vec<Token>,
     front: usize,
@@ -253,7 +257,8 @@ pub(crate) fn splice_tokens(
     Ok(())
 }
 
-/// Replaces comments `front..following` by `between`, and shifts the spans of the later comments.
+/// Replaces the comments `front..following` by `between`, and shifts the spans of the later
+/// comments.
 pub(crate) fn splice_comments(
     comments: &mut Vec<Span>,
     front: usize,

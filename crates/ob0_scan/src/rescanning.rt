@@ -1,8 +1,8 @@
-//! Scans a text that was changed at one place, and reuses an older scan's tokens and comments
+//! Scans a text that was changed at one place, and reuses the tokens and comments of an older scan
 //! before and after the change.
 //!
 //! `rescan_in_place` takes the tokens of the old text and turns them into the tokens of the new
-//! text; if the new text has faults, it returns the old ones. `rescan` does the same with a copy.
+//! text. If the new text has faults, it returns the old ones. `rescan` does the same with a copy.
 //! Both return the tokens and comments that `scan` of the new text returns. `Reuses`
 //! (`specs/Reused`) says which of them are old:
 //! - Before the change: each that ends before it. (One that ends right at the change may continue
@@ -10,19 +10,19 @@
 //! - After the change, moved by `added` less `removed`: each after the first place at which a token
 //!   or comment begins in both texts. That place can't be later than necessary (`IsNew`).
 //!
-//! `alike` says that the tokens have the same kinds as before, `same_names` that the identifiers
-//! have the same spelling, and `same_words` that all tokens do.
+//! `alike` says that the tokens have the same kinds as before. `same_names` says that the
+//! identifiers have the same spelling, and `same_words` that all tokens do.
 //!
 //! Binary search finds the tokens and comments before the change (`Pieces::ending_before`). A
 //! scanner continues after the last of them; white space isn't kept, so it is read again. Before
-//! each step after the change it tests whether an old token or comment begins at that place. Binary
-//! search also finds the first old ones after the change (`beginning_from`). `onward_to` skips
-//! those before each step, so all these tests together visit each old token at most once. A scan is
-//! in order (`AreInOrder`), so binary search finds the number that the definition counts
-//! (`proofs/Halved`).
+//! each step after the change, the scanner tests whether an old token or comment begins at its
+//! place. Binary search also finds the first old ones after the change (`beginning_from`).
+//! `onward_to` skips old ones before each step, so all these tests together visit each old token at
+//! most once. A scan is in order (`AreInOrder`), so binary search finds the number that the
+//! definition counts (`proofs/Halved`).
 //!
-//! The newly read tokens and comments lie between the old ones (`IsBetween`). When reading is
-//! complete, the later old ones move in their list and the new ones are inserted before them
+//! The newly read tokens and comments are placed between the old ones (`IsBetween`). When reading
+//! is complete, the later old ones move in their list and the new ones are inserted before them
 //! (`splice_tokens`, `splice_comments`). So memory holds the tokens of only one text; two lists
 //! would leave holes of their size in the heap. Only the changed bytes of the text are replaced,
 //! and the bytes after them move (`ReplacedRange::replace`). If a change begins or ends inside a
@@ -31,16 +31,16 @@
 //! The change needn't begin and end between characters: a lexeme's last byte is ASCII, so the scan
 //! begins and stops at character borders anyway. A fault ends the search for a common place, so the
 //! faults are those of `scan`, each reported once. Spans fit in 32 bits because of the text's
-//! length: `ScanProgress` says so for a scanner's spans (`short`), `IsMovable` for moved spans.
+//! length: `ScanProgress` says so for a scanner's spans (`short`), `IsMovable` for shifted spans.
 //! Callers have to show `IsReplaced`. The law `middle_is_replaced` gives it for texts joined from
 //! parts, and `Difference::between` of `ob0_analysis` for any two texts.
 //!
-//! The proof: `proofs/AtLexemes` gives the places of the tokens and comments of a list of lexemes.
-//! `Fronts` splits the old lexemes before the change. `Reusing` has the two seams: a lexeme depends
-//! on its bytes and the next byte; equal rests have equal lexemes. `Between` collects the newly
-//! read tokens, and `Kept` has the numbers of the reused old ones. `Named` shows that the tokens
-//! before and after have the same spelling. No clause counts steps, so nothing proves that old
-//! tokens aren't scanned again.
+//! In the proof, `proofs/AtLexemes` gives the places of the tokens and comments of a list of
+//! lexemes. `Fronts` splits the old lexemes before the change. `Reusing` joins old and new lexemes
+//! at two places: a lexeme depends only on its bytes and the next byte, and equal rests have equal
+//! lexemes. `Between` collects the newly read tokens, and `Kept` has the numbers of the reused old
+//! ones. `Named` shows that the tokens before and after have the same spelling. No clause counts
+//! steps, so nothing proves that old tokens aren't scanned again.
 
 ghost use Rattle.std.specs.Prelude.{◌≡◌, ℕ, List, [], false, ◌+◌, ◌-◌, ◌<◌, ◌≤◌, true, IfOk, IfErr, OnOk, length, take, drop};
 ghost use Rattle.ob0_scan.specs.declared.lexeme.TokenKind.TheVariants.{Identifier, Integer};
@@ -61,15 +61,15 @@ use crate::tokens::{Rescan, RescanInPlace, SameTokens, Tokens};
 use std::alloc::{AllocError, Global};
 use thiserror::Error;
 
-/// The number of tokens and comments before a place.
+/// A number of tokens and a number of comments.
 #[derive(Clone, Copy)]
 pub(crate) struct LexemeCounts {
     pub(crate) tokens: usize,
     pub(crate) comments: usize,
 }
 
-/// The newly scanned tokens and comments, with their place among the old ones: after the first
-/// `front`, and before those starting at `following`.
+/// The newly scanned tokens and comments, and the old ones that they replace: the old ones after
+/// the first `front` and before index `following`.
 #[derive(Drop)]
 pub(crate) struct Between {
     pub(crate) front: LexemeCounts,
@@ -127,7 +127,7 @@ impl Between {
     }
 }
 
-/// Returns whether the tokens of two texts agree in kind and spelling, one by one.
+/// Returns whether the tokens of two texts have the same kinds and spellings, one by one.
 fn have_same_words(new_text: &[u8], new: &[Token], old_text: &[u8], old: &[Token]) -> bool
     ensures { result ≡ true → words_in new_text.now new.now ≡ words_in old_text.now old.now }
 {
@@ -142,14 +142,15 @@ fn have_same_words(new_text: &[u8], new: &[Token], old_text: &[u8], old: &[Token
     true
 }
 
-/// Returns whether two tokens have the same kind and spelling.
+/// Returns whether two tokens of two texts have the same kind and spelling.
 fn is_same_word(new_text: &[u8], new: Token, old_text: &[u8], old: Token) -> bool
     ensures { result ≡ true → read_in new_text.now new ≡ read_in old_text.now old }
 {
     new.kind == old.kind && is_same_piece(new_text, new.span, old_text, old.span)
 }
 
-/// Returns whether the identifiers among the tokens of two texts agree in position and spelling.
+/// Returns whether the identifiers among the tokens of two texts are at the same indexes and have
+/// the same spellings.
 fn have_same_names(new_text: &[u8], new: &[Token], old_text: &[u8], old: &[Token]) -> bool
     ensures { result ≡ true → names_in new_text.now new.now ≡ names_in old_text.now old.now }
 {
@@ -164,7 +165,8 @@ fn have_same_names(new_text: &[u8], new: &[Token], old_text: &[u8], old: &[Token
     true
 }
 
-/// Returns whether two tokens are identifiers with the same spelling, or neither is an identifier.
+/// Returns whether two tokens of two texts are identifiers with the same spelling, or neither is an
+/// identifier.
 fn is_same_name(new_text: &[u8], new: Token, old_text: &[u8], old: Token) -> bool
     ensures { result ≡ true → name_of new.kind (spanned new_text.now new.span)
         ≡ name_of old.kind (spanned old_text.now old.span) }
@@ -188,7 +190,7 @@ fn is_name(kind: TokenKind) -> bool
     }
 }
 
-/// Returns whether two spans lie in their texts and contain the same bytes.
+/// Returns whether two spans are within their texts and contain the same bytes.
 fn is_same_piece(a: &[u8], in_a: Span, b: &[u8], in_b: Span) -> bool
     ensures { result ≡ true → spanned a.now in_a ≡ spanned b.now in_b }
 {
@@ -199,7 +201,7 @@ fn is_same_piece(a: &[u8], in_a: Span, b: &[u8], in_b: Span) -> bool
         && a[in_a.start as usize..in_a.end as usize] == b[in_b.start as usize..in_b.end as usize]
 }
 
-/// Returns whether two lists of tokens agree in kind, one by one; the values of integers may
+/// Returns whether two lists of tokens have the same kinds, one by one. The values of integers may
 /// differ.
 fn are_alike(new: &[Token], old: &[Token]) -> bool
     ensures { result ≡ true → kinds new.now ≡ kinds old.now }
@@ -215,7 +217,7 @@ fn are_alike(new: &[Token], old: &[Token]) -> bool
     true
 }
 
-/// Returns whether two tokens have the same kind; the values of integers may differ.
+/// Returns whether two kinds of tokens are the same. The values of integers may differ.
 fn is_same_kind(a: TokenKind, b: TokenKind) -> bool
     ensures { result ≡ true → valueless a ≡ valueless b }
 {
@@ -241,7 +243,8 @@ fn is_integer(kind: TokenKind) -> bool
     }
 }
 
-/// The reason why a changed text has no tokens. If it has faults, the old tokens come with them.
+/// The reason why a changed text has no tokens: its faults, with the old tokens, or a failed
+/// allocation.
 #[derive(Debug, Drop, Error)]
 pub enum NotRescanned {
     #[error("faults in the text")]
@@ -260,8 +263,8 @@ impl From<AllocError> for NotRescanned {
 
 /// Returns the tokens and comments of `new_text`, or its faults. `new_text` is the text of `old`
 /// with the `removed` bytes starting at byte `from` replaced by `added` others. The old tokens and
-/// comments before the change are reused. The scan ends at the first place at which an old token or
-/// comment begins again.
+/// comments before the change are reused. The scan ends at the first place after the change at
+/// which an old token or comment begins.
 pub fn rescan(
     alloc: Global,
     old: &Tokens,
@@ -284,8 +287,9 @@ pub fn rescan(
     }
 }
 
-/// Turns the old tokens and comments into those of `new_text`, like `rescan` but without a copy:
-/// those before the change keep their places. If the text has faults, the old ones are returned.
+/// Changes the old tokens and comments into those of `new_text`, like `rescan` but without a copy:
+/// the ones before the change aren't moved. If the text has faults, the old tokens are returned
+/// with them. If an allocation fails, the old tokens are lost.
 pub fn rescan_in_place(
     alloc: Global,
     old: Tokens,
@@ -342,8 +346,8 @@ pub fn rescan_in_place(
     }
 }
 
-/// Makes the error for a changed text without tokens. If the text has faults, the old tokens are
-/// returned with them.
+/// Returns the error for a changed text that wasn't scanned. If the text has faults, the old tokens
+/// are returned with them.
 fn refuse(
     old: Tokens,
     new_text: &str,
@@ -361,7 +365,8 @@ fn refuse(
     }
 }
 
-/// Scans the part of a changed text that has to be read again.
+/// Scans the part of a changed text that has to be read again. Returns the new tokens and comments
+/// with the range of old ones that they replace.
 fn scan_again(
     alloc: Global,
     old: &Tokens,
@@ -406,7 +411,8 @@ fn scan_again(
 }
 
 /// Scans to the end of the text, or up to the first place after the change at which an old token or
-/// comment begins again. Returns the old ones that begin at that place or later.
+/// comment begins. Returns the old ones that begin at that place or later; at the end of the text
+/// there are none.
 fn scan_on<'o>(
     scanner: &mut Scanner,
     old: &'o Tokens,

@@ -1,4 +1,4 @@
--- The part of some bytes that was written.
+-- Proves which part of two byte strings was written.
 use Rattle.std.proofs.Common.{◌≡◌, ◌∙◌, ◌<◌, ◌+◌, ℕ, suc, length, get_or, add-one, append-nil, List, [], ◌∷◌, ◌++◌, Bool, true, ◌||◌, Option, Result, Ok, Err, OnErr, is_err, take, drop, map, ap, sym, append_assoc}
 use Rattle.std.proofs.Math.Bool.{or-true}
 use Rattle.std.proofs.Math.ListN.{get_or-map as get_or_map}
@@ -11,7 +11,7 @@ use Rattle.std.proofs.KnownBytes.{Appends-trans}
 use Rattle.std.specs.Io.KnownBytes.{Appends}
 use Rattle.ob0_session.specs.Sending.{AppendsPrefix}
 
--- a prefix of the first bytes, and nothing of the bytes after them
+-- If a prefix of `head` was written, so was a prefix of `head` and `content` together.
 pub front_of_first : (old new : Option (List ℕ)) (head content : List ℕ) → (n : ℕ) × Appends old new (take n head) → AppendsPrefix old new (head ++ content)
 front_of_first old new head content f = (
   take f.0 head,
@@ -20,7 +20,7 @@ front_of_first old new head content f = (
   f.1,
 )
 
--- all of the first bytes, and a prefix of the bytes after them
+-- If all of `head` and a prefix of `content` were written, so was a prefix of both together.
 pub front_of_later : (old mid new : Option (List ℕ)) (head content : List ℕ) → Appends old mid head → (n : ℕ) × Appends mid new (take n content) → AppendsPrefix old new (head ++ content)
 front_of_later old mid new head content all f = (
   head ++ take f.0 content,
@@ -29,7 +29,7 @@ front_of_later old mid new head content all f = (
   Appends-trans old mid new head (take f.0 content) all f.1,
 )
 
--- a failing call is recorded
+-- If a call fails and failures are noted, the note says so after the call.
 pub failing : {T E P Q : Type 0} (r : Result T E) (before after : Bool) → after ≡ (before || is_err r) → (P → Q) → OnErr r P → OnErr r (Q × after ≡ true)
 failing (Ok x) before after noted weaker h = tt
 failing (Err e) before after noted weaker h = (weaker h, noted ∙ or-true before)
@@ -42,14 +42,15 @@ front_after old mid new first part rest all whole f is = (
   Appends-trans old mid new first f.0 whole f.3,
 )
 
--- a fact that holds in any case also holds if a call fails
+-- A fact that holds in any case also holds if a call fails.
 pub whatever : {T E P : Type 0} (r : Result T E) → P → OnErr r P
 whatever (Ok x) p = tt
 whatever (Err e) p = p
 
 -- ---- the frames of messages, one after another
 
--- the head of a message, among the heads of all messages
+-- If the list of heads belongs to the list of messages, the i-th head is the head of the i-th
+-- message.
 pub head_text : {X : Type 0} (items : X → List ℕ) (heads messages : List X) (i : ℕ) (h m : X) → map items heads ≡ map (λ x. written_head (length (items x))) messages
     → i < length messages → h ≡ get_or heads i h → m ≡ get_or messages i m → items h ≡ written_head (length (items m))
 head_text items heads messages i h m same inside his mis =

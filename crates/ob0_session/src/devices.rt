@@ -1,7 +1,7 @@
-//! Declares the devices that `serve` reads and writes, with ghost notes of their calls and failures.
+//! Declares the devices that `serve` reads and writes. Ghost functions record their calls and failures.
 //!
-//! std's contracts say neither how often a reader was called nor whether a call failed. The contract of `serve` says
-//! both for every device of these traits. `Noted` makes such a device of each reader and each writer of std.
+//! std's contracts don't count the calls of a reader, and don't record whether a call failed. The contract of `serve`
+//! covers both, for every device of these traits. `Noted` makes such a device of each reader and each writer of std.
 ghost use Rattle.std.specs.Prelude.{◌≡◌, ◌≢◌, ◌||◌, ◌<◌, ℕ, List, [], Option, Bool, true, false, length, is_err, IfOk, OnOk, OnErr};
 ghost use Rattle.std.specs.Io.{ReadsAtMost, WritesAtMost};
 ghost use Rattle.std.specs.Io.KnownBytes.{Keeps, ReadConsumes, WriteAppends};
@@ -9,23 +9,24 @@ ghost use Rattle.ob0_session.specs.Devices.{ReadCounts, with_read};
 
 use thiserror::Error;
 
-/// A call of the device failed, or a write took no byte of some.
+/// The error of a device: a call failed, or a write of some bytes wrote no byte.
 #[derive(Clone, Copy, Debug, PartialEq, Eq, Error)]
 #[error("the device failed")]
 pub struct DeviceFault;
 
-/// A device that is read.
+/// A device from which bytes are read.
 pub trait InputDevice {
-    // The bytes that it has left to give, if these are known.
+    // Returns the bytes that are left to read, or None if they aren't known.
     ghost remaining: { Self → Option (List ℕ) };
 
-    // The number of its reads, and the most bytes that one of them could give.
+    // Returns the number of reads, and the length in bytes of the longest buffer that a read was given.
     ghost reads: { Self → ReadCounts };
 
-    // True if a call has failed.
+    // Returns true if a call has failed.
     ghost has_failed: { Self → Bool };
 
-    /// Reads some bytes. Reads no bytes only at the end, or if there is no room.
+    /// Reads some bytes into the buffer and returns their number. It is 0 only at the end of the input or for an empty
+    /// buffer.
     fn read(&mut self, buf: &mut [u8]) -> Result<usize, DeviceFault>
         ensures bound { ReadsAtMost result buf.new }
         ensures bytes { ReadConsumes (remaining self.old) (remaining self.new) result buf.new }
@@ -33,18 +34,18 @@ pub trait InputDevice {
         ensures reads { reads self.new ≡ with_read (length buf.new) (reads self.old) };
 }
 
-/// A device that is written to.
+/// A device to which bytes are written.
 pub trait OutputDevice {
-    // The bytes that were written to it, if these are known.
+    // Returns the bytes that were written, or None if they aren't known.
     ghost contents: { Self → Option (List ℕ) };
 
-    // True if a flush has succeeded after the last write, or nothing was written.
+    // Returns true if a flush has succeeded after the last write, or nothing was written.
     ghost is_flushed: { Self → Bool };
 
-    // True if a call has failed.
+    // Returns true if a call has failed.
     ghost has_failed: { Self → Bool };
 
-    /// Writes some of the bytes, at least one if there are any.
+    /// Writes some of the bytes, at least one if there are any, and returns their number.
     fn write(&mut self, buf: &[u8]) -> Result<usize, DeviceFault>
         ensures bound { WritesAtMost result buf.now }
         ensures progress { IfOk result (λ count. buf.now ≢ [] → 0 < count) }
@@ -52,7 +53,7 @@ pub trait OutputDevice {
         ensures noted { has_failed self.new ≡ (has_failed self.old || is_err result) }
         ensures flushed { is_flushed self.new ≡ false };
 
-    /// Flushes all the bytes written.
+    /// Flushes all the bytes written. If the flush fails, the device counts as flushed only if it did before.
     fn flush(&mut self) -> Result<(), DeviceFault>
         ensures bytes { Keeps (contents self.old) (contents self.new) }
         ensures noted { has_failed self.new ≡ (has_failed self.old || is_err result) }

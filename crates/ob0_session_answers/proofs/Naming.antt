@@ -1,4 +1,4 @@
--- The answer about the name at a position, and that it can be sent.
+-- Proves that the answer about the name at a position is right, and that it can be sent.
 use Rattle.std.proofs.Common.{◌≡◌, ◌≤◌, ℕ, List, [], ◌∷◌, Option, Some, None, map, subst, arith}
 use Rattle.std.specs.Str.{chars, IsUtf8}
 use Rattle.serde_json.specs.Data.{null, array, items_depth}
@@ -13,7 +13,8 @@ use Rattle.ob0_analysis.specs.Texts.{utf8}
 use Rattle.ob0_session_answers.specs.Questions.{location_at}
 use Rattle.ob0_analysis.proofs.Scanning.{utf8_of}
 
--- the answer about the module that the text is, or that the text isn't a module
+-- Holds if the text is a module and its names have this answer, or there is no answer (None) and
+-- the text isn't a well-typed module.
 abbrev pub FoundOf : {A : Type 0} → List ℕ → (Resolution → A → Type 0) → Option A → Type 0
 FoundOf text is (Some answer) = (names : Resolution) × IsModuleIn (utf8 text) names × is names answer
 FoundOf text is None = IsWellTypedModule (utf8 text) → ⊥

@@ -1,4 +1,5 @@
--- The answer to a request for code actions: inlining a constant, at one use or everywhere.
+-- Defines the answer to a request for code actions, which inline a constant at one use or
+-- everywhere.
 -- Rule: docs/PROTOCOL.md, Requests on documents 7.
 use Rattle.std.specs.Prelude.{◌≡◌, ◌⊎◌, ℕ, ℤ, List, [], ◌∷◌, ◌++◌, Bool, true, false, ◌&&◌, ◌||◌, min, Option, Some, None, Vec, codes}
 use Rattle.std.specs.List.{list_any}
@@ -25,8 +26,8 @@ use Rattle.ob0_edits.specs.declared.inlining.Inlining.TheVariants.{Here, Everywh
 
 -- ---- the request
 
--- a request: its id, the client, the document and its version, the range, and the requested kinds
--- of actions, if there are any
+-- A request for code actions: its id, the client's capabilities, the document and its version, the
+-- range, and the requested kinds of actions (None if all kinds are requested).
 pub record RequestedActions : Type 0 where
   pub id : Data
   pub client : Client
@@ -35,7 +36,7 @@ pub record RequestedActions : Type 0 where
   pub range : Range
   pub only : Option (List (List ℕ))
 
--- the meaning of a request for code actions in a document of this version
+-- Returns the meaning of the code's request for code actions in a document of this version.
 abbrev pub actions_requested : ActionsRequest → ℤ → RequestedActions
 actions_requested r version =
     record {
@@ -47,47 +48,48 @@ actions_requested r version =
       only = kinds_seen r.only.now;
     }
 
--- true if inlining is an action of this kind
+-- Returns true if inlining is an action of this kind.
 abbrev pub is_of_kind : List ℕ → Bool
 is_of_kind kind =
     bytes_eq kind [] || bytes_eq kind (codes "refactor") || bytes_eq kind (codes "refactor.inline")
 
--- true if no kinds are requested, or inlining is of a requested kind
+-- Returns true if all kinds are requested (None), or inlining is of a requested kind.
 abbrev pub allows_inlining : Option (List (List ℕ)) → Bool
 allows_inlining (Some kinds) = list_any is_of_kind kinds
 allows_inlining None = true
 
--- true if the client accepts actions that aren't commands and requests actions of this kind
+-- Returns true if the client accepts actions that aren't commands, and inlining is of a requested
+-- kind or all kinds are requested.
 abbrev pub takes_inlining : Client → Option (List (List ℕ)) → Bool
 takes_inlining client only = client.takes_literal_actions && allows_inlining only
 
 abbrev pub wants_inlining : RequestedActions → Bool
 wants_inlining requested = takes_inlining requested.client requested.only
 
--- the offset in bytes at which actions work: the start of the range, or its end if the range is
--- swapped
+-- Returns the byte offset at which actions apply: the start of the range, or its end if that is
+-- before the start.
 abbrev pub actions_offset : Unit → List ℕ → Range → ℕ
 actions_offset unit text range =
     min (offset_of (width_of unit) text range.start) (offset_of (width_of unit) text range.end)
 
 -- ---- the message
 
--- the title of an action
+-- Returns the title of an action.
 abbrev pub title : Inlining → List ℕ
 title Here = codes "Inline here"
 title Everywhere = codes "Inline everywhere"
 
--- the action with these edits, in the form that the client accepts
+-- Returns the JSON value of the action with these edits, in the form that the client accepts.
 abbrev pub action_of : RequestedActions → Inlining → List Edit → Data
 action_of requested how edits =
     action_value (workspace_edit requested.client requested.uri requested.version edits) (title how)
 
--- a list of one action, or of none if its edit is refused
+-- Returns a list of one action, or no actions if its edits are refused (None).
 abbrev pub action_values : RequestedActions → Inlining → Option (Vec Edit Global) → List Data
 action_values requested how (Some edits) = action_of requested how edits.items ∷ []
 action_values requested how None = []
 
--- the offered actions: inlining at one use precedes inlining everywhere
+-- Returns the JSON array of the offered actions. Inlining at one use precedes inlining everywhere.
 abbrev pub actions_value : RequestedActions
     → Option (Vec Edit Global)
     → Option (Vec Edit Global)
@@ -96,7 +98,8 @@ actions_value requested here everywhere =
     array (items_of
     (action_values requested Here here ++ action_values requested Everywhere everywhere))
 
--- states that the client requests these actions and that they are offered for a well-typed module
+-- Holds if the client requests inlining, the text is a well-typed module, and the value lists the
+-- actions offered for it.
 pub record ListsInlinings (unit : Unit) (requested : RequestedActions) (text : List ℕ)
     (value : Data) : Type 0 where
   pub here : Option (Vec Edit Global)
@@ -107,23 +110,23 @@ pub record ListsInlinings (unit : Unit) (requested : RequestedActions) (text : L
       everywhere
   pub listed : value ≡ actions_value requested here everywhere
 
--- States that a list has the offered actions. It is empty if the client requests none, or if the
--- text isn't a well-typed module.
+-- Holds if the value lists the offered actions. It is empty if the client doesn't request inlining,
+-- or if the text isn't a well-typed module.
 abbrev pub ListsActions : Unit → RequestedActions → List ℕ → Data → Type 0
 ListsActions unit requested text value =
     ListsInlinings unit requested text value
     ⊎ (((wants_inlining requested ≡ false) ⊎ ¬ IsWellTypedModule (utf8 text))
     × (value ≡ array no_items))
 
--- states that a message answers the request for a document with this text, if positions are counted
--- in this unit
+-- Holds if the message answers the request for a document with this text. Positions are counted in
+-- this unit.
 abbrev pub AnswersActions : Unit → RequestedActions → List ℕ → Data → Type 0
 AnswersActions unit requested text message =
     (value : Data)
     × ListsActions unit requested text value
     × (message ≡ result_message requested.id value)
 
--- states that a content answers the request
+-- Holds if the content is the text of a message that answers the request.
 abbrev pub RepliesToActions : Unit → RequestedActions → List ℕ → List ℕ → Type 0
 RepliesToActions unit requested text content =
     (message : Data) × AnswersActions unit requested text message × Writes message content

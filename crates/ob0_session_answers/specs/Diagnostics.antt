@@ -1,4 +1,4 @@
--- The diagnostics of a text: the reported complaints, at positions.
+-- Defines the diagnostics of a text: the reported complaints, with positions.
 -- Rule: docs/PROTOCOL.md, Publishing 3, JSON shapes 2.
 use Rattle.std.specs.Prelude.{◌≡◌, ℕ, ℤ, List, Some, map}
 use Rattle.ob0_rpc.specs.Writing.{Writes}
@@ -9,7 +9,7 @@ use Rattle.ob0_analysis.specs.Diagnosed.{Complaint, Reports}
 use Rattle.ob0_analysis.specs.Texts.{utf8}
 use Rattle.ob0_session_json.specs.Shapes.{Diagnostic, publication}
 
--- the diagnostic of a complaint, at the positions of its start and end
+-- Returns the diagnostic of a complaint, from the position of its start to the position of its end.
 abbrev pub diagnostic_of : Unit → List ℕ → Complaint → Diagnostic
 diagnostic_of unit text c = record {
   code = c.code;
@@ -18,14 +18,14 @@ diagnostic_of unit text c = record {
   end = position_of (width_of unit) text c.span.end;
 }
 
--- states that these are the diagnostics of the text
+-- Holds if these are the diagnostics of the text. Positions are counted in this unit.
 abbrev pub Diagnoses : Unit → List ℕ → List Diagnostic → Type 0
 Diagnoses unit text ds =
     (reported : List Complaint)
     × Reports (utf8 text) reported
     × (ds ≡ map (diagnostic_of unit text) reported)
 
--- states that a content publishes the diagnostics of a document with this uri and version
+-- Holds if the content publishes the diagnostics of a document with this uri, version and text.
 abbrev pub Publishes : Unit → List ℕ → ℤ → List ℕ → List ℕ → Type 0
 Publishes unit uri version text content =
     (ds : List Diagnostic)

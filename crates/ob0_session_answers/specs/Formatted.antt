@@ -1,4 +1,4 @@
--- The answer to a request for formatting.
+-- Defines the answer to a request for formatting.
 -- Rule: docs/PROTOCOL.md, Requests on documents 8.
 use Rattle.std.specs.Prelude.{◌≡◌, ◌⊎◌, ℕ, List, codes}
 use Rattle.serde_json.specs.Data.{Data}
@@ -14,7 +14,8 @@ use Rattle.ob0_analysis.specs.Texts.{utf8}
 use Rattle.ob0_edits.specs.Layouts.{IsTooLongLaidOut, LaysOut}
 use Rattle.ob0_session_json.specs.Shapes.{edits_value, edit_refused}
 
--- states that a message answers a request for formatting with this id
+-- Holds if the message answers a request with this id to format the text: with edits, or with the
+-- refusal that the formatted text is too long or the text is ill-typed.
 abbrev pub AnswersFormatting : Unit → Data → Indent → List ℕ → Data → Type 0
 AnswersFormatting unit id indent text message =
     ((edits : List Edit)
@@ -23,7 +24,7 @@ AnswersFormatting unit id indent text message =
     ⊎ ((IsTooLongLaidOut indent text × (message ≡ edit_refused id (refusal_text TooLong)))
     ⊎ (¬ IsWellTypedModule (utf8 text) × (message ≡ edit_refused id (codes "ill-typed"))))
 
--- states that a content answers the request
+-- Holds if the content is the text of a message that answers the request for formatting.
 abbrev pub RepliesToFormatting : Unit → Data → Indent → List ℕ → List ℕ → Type 0
 RepliesToFormatting unit id indent text content =
     (message : Data) × AnswersFormatting unit id indent text message × Writes message content

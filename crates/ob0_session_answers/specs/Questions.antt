@@ -1,4 +1,4 @@
--- Questions about the name or field at a position of a document's text, and their answers.
+-- Defines questions about the name or field at a position of a document's text, and their answers.
 -- Rule: docs/PROTOCOL.md, Requests on documents 2 to 5.
 use Rattle.std.specs.Prelude.{◌≡◌, ◌⊎◌, ℕ, List, Bool, Option, Some, None, map, option_map}
 use Rattle.serde_json.specs.Data.{Data, null, array, no_items}
@@ -19,46 +19,46 @@ use Rattle.ob0_analysis.specs.Diagnosed.{IsWellTypedModule}
 use Rattle.ob0_analysis.specs.Texts.{utf8}
 use Rattle.ob0_session_json.specs.Shapes.{hover_value, location_in}
 
--- a question about the name or field at a position
+-- A question about the name or field at a position.
 pub data NameQuestion : Type 0 where
   hover_asked : NameQuestion
   definition_asked : NameQuestion
-  -- the truth value says whether the declaration is included
+  -- Asks for references. The truth value says whether the declaration is included.
   references_asked : Bool → NameQuestion
   renaming_asked : NameQuestion
 
 -- ---- JSON values, from the unit of positions, the uri and the characters of the text
 
--- the JSON value of a span's range
+-- Returns the JSON value of a span's range.
 abbrev pub range_at : Unit → List ℕ → Span → Data
 range_at unit text span =
     let range = range_of (width_of unit) text span in range_value range.start range.end
 
--- the JSON value of a span's location
+-- Returns the JSON value of a span's location in the document with this uri.
 abbrev pub location_at : Unit → List ℕ → List ℕ → Span → Data
 location_at unit uri text span = location_in uri (range_of (width_of unit) text span)
 
--- the JSON value of a hover text with its range
+-- Returns the JSON value of a hover text with its range.
 abbrev pub hover_at : Unit → List ℕ → HoverText → Data
 hover_at unit text shown = hover_value shown.text (range_at unit text shown.span)
 
--- a value, or null
+-- Returns the value, or null for None.
 abbrev pub value_or_null : Option Data → Data
 value_or_null (Some value) = value
 value_or_null None = null
 
--- the offset in bytes of a position
+-- Returns the byte offset of a position.
 abbrev pub offset_in : Unit → List ℕ → At → ℕ
 offset_in unit text at = offset_of (width_of unit) text at.position
 
--- states that a value lists all references and no others, in text order
+-- Holds if the value lists the locations of all references and of nothing else, in text order.
 abbrev pub AnswersReferences : Unit → List ℕ → At → Bool → Resolution → Data → Type 0
 AnswersReferences unit text at include names value =
     (spans : List Span)
     × AreReferencesAt names (offset_in unit text at) include spans
     × (value ≡ array (items_of (map (location_at unit at.uri text) spans)))
 
--- states that a value answers the question about a well-typed module
+-- Holds if the value answers the question about a well-typed module with these bound names.
 abbrev pub AnswersIn : Unit → List ℕ → At → NameQuestion → Resolution → Data → Type 0
 AnswersIn unit text at hover_asked names value =
     value
@@ -75,7 +75,7 @@ AnswersIn unit text at renaming_asked names value =
     ≡ value_or_null
     (option_map (range_at unit text) (renamable_at names (offset_in unit text at)))
 
--- the answer if the text isn't a well-typed module
+-- Returns the answer for a text that isn't a well-typed module.
 abbrev pub no_answer : NameQuestion → Data
 no_answer hover_asked = null
 no_answer definition_asked = null
@@ -84,7 +84,7 @@ no_answer renaming_asked = null
 
 -- ---- texts
 
--- states that a value answers a question about a position of a text
+-- Holds if the value answers the question about a position of this text.
 abbrev pub AnswersName : Unit → List ℕ → At → NameQuestion → Data → Type 0
 AnswersName unit text at question value =
     ((names : Resolution)
@@ -92,7 +92,7 @@ AnswersName unit text at question value =
     × AnswersIn unit text at question names value)
     ⊎ (¬ IsWellTypedModule (utf8 text) × (value ≡ no_answer question))
 
--- states that a content answers a request with this id
+-- Holds if the content answers the question in a request with this id.
 abbrev pub RepliesAboutName : Unit → Data → At → NameQuestion → List ℕ → List ℕ → Type 0
 RepliesAboutName unit id at question text content =
     (value : Data)

@@ -1,4 +1,4 @@
--- The answer to a request for renaming, and its edits.
+-- Defines the answer to a request for renaming, and its edits.
 -- Rule: docs/PROTOCOL.md, Requests on documents 6.
 use Rattle.std.specs.Prelude.{◌≡◌, ◌⊎◌, ℕ, ℤ, List, codes}
 use Rattle.serde_json.specs.Data.{Data}
@@ -17,8 +17,8 @@ use Rattle.ob0_analysis.specs.Texts.{utf8}
 use Rattle.ob0_session_json.specs.Shapes.{edit_refused, workspace_edit}
 use Rattle.ob0_session_answers.specs.declared.renaming.RenameRequest.{RenameRequest}
 
--- a request for renaming: its id, the client, the place in a document, the document's version, and
--- the new name
+-- A request for renaming: its id, the client's capabilities, the document and position, the
+-- document's version, and the new name.
 pub record RequestedRename : Type 0 where
   pub id : Data
   pub client : Client
@@ -26,7 +26,7 @@ pub record RequestedRename : Type 0 where
   pub version : ℤ
   pub new : List ℕ
 
--- the meaning of a request for renaming in a document of this version
+-- Returns the meaning of the code's request for renaming in a document of this version.
 abbrev pub rename_requested : RenameRequest → ℤ → RequestedRename
 rename_requested r version =
     record {
@@ -37,13 +37,13 @@ rename_requested r version =
       new = r.new.now;
     }
 
--- the JSON value of the edits, in the form that the client accepts
+-- Returns the JSON value of the edits, in the form that the client accepts.
 abbrev pub edits_for_client : RequestedRename → List Edit → Data
 edits_for_client requested edits =
     workspace_edit requested.client requested.at.uri requested.version edits
 
--- states that a message answers the request for a document with this text, if positions are counted
--- in this unit
+-- Holds if the message answers the request for a document with this text. Positions are counted in
+-- this unit.
 abbrev pub AnswersRenaming : Unit → RequestedRename → List ℕ → Data → Type 0
 AnswersRenaming unit requested text message =
     ((edits : List Edit)
@@ -54,7 +54,7 @@ AnswersRenaming unit requested text message =
     × (message ≡ edit_refused requested.id (refusal_text refusal)))
     ⊎ (¬ IsWellTypedModule (utf8 text) × (message ≡ edit_refused requested.id (codes "ill-typed"))))
 
--- states that a content answers the request
+-- Holds if the content is the text of a message that answers the request.
 abbrev pub RepliesToRename : Unit → RequestedRename → List ℕ → List ℕ → Type 0
 RepliesToRename unit requested text content =
     (message : Data) × AnswersRenaming unit requested text message × Writes message content

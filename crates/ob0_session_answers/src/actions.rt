@@ -1,9 +1,9 @@
-//! Answers requests for code actions: inlining a constant, at one use or everywhere.
+//! Answers requests for code actions, which inline a constant at one use or everywhere.
 //!
-//! `inline_in` of `ob0_edits` makes the edits. `place_of` compares offsets, so that a swapped range
-//! needs no law about the order of positions (`actions_offset` is the smaller of two offsets). An
-//! action is made from an `Inlining` (`Here`, `Everywhere`), so title, relation and edits depend on
-//! one argument. A further action needs one more `Inlining` and a line in `title`.
+//! `inline_in` of `ob0_edits` makes the edits. `place_of` compares offsets, so no law about the
+//! order of positions is needed for a swapped range (`actions_offset` is the smaller of two
+//! offsets). The title, the definition and the edits of an action all depend on one `Inlining`
+//! (`Here` or `Everywhere`). To add an action, add an `Inlining` and a line in `title`.
 
 ghost use Rattle.std.specs.Prelude.{◌≡◌, IfOk, map, string_bytes};
 ghost use Rattle.std.specs.List.{list_any};
@@ -24,7 +24,7 @@ use ob0_session_json::edits::{CodeAction, WorkspaceEdit};
 use ob0_text::{Edit, Position, Range, TextStore};
 use std::alloc::{AllocError, Global};
 
-/// Returns the start of a range, or its end if the range is swapped.
+/// Returns the start of a range, or its end if that is before the start.
 fn place_of<T: TextStore>(store: &T, range: Range) -> Position
     ensures { offset_of (width_of (T.unit_of store.now)) (T.content store.now) result
         ≡ place_in (T.unit_of store.now) (T.content store.now) range }
@@ -43,7 +43,7 @@ pub struct ActionsRequest<'a> {
     pub client: Client,
     pub uri: &'a str,
     pub range: Range,
-    /// The requested kinds of actions, if there are any.
+    /// The requested kinds of actions, or None if all kinds are requested.
     pub only: &'a Option<Vec<String>>,
 }
 
@@ -70,15 +70,16 @@ impl<'a, T: TextStore> DocumentRequest<T> for ActionsRequest<'a> {
 }
 
 impl<'a> ActionsRequest<'a> {
-    /// Returns whether the client accepts actions that aren't commands, and requests actions of
-    /// this kind.
+    /// Returns whether the client accepts actions that aren't commands, and inlining is of a
+    /// requested kind or all kinds are requested.
     fn wants_inlining(&self) -> bool
         ensures { result ≡ wants self.now.client (kinds_seen self.now.only.now) }
     {
         self.client.takes_literal_actions && allows_inlining(self.only)
     }
 
-    /// Returns the offered actions: first inlining at this use, then inlining everywhere.
+    /// Returns the answer that lists the offered actions: first inlining at this use, then inlining
+    /// everywhere.
     fn list(&self, alloc: Global, version: i64, found: &Inlinings) -> Result<Vec<u8>, AllocError>
         ensures { IfOk result (λ bytes. Writes (result_message (id_data self.now.id.now)
             (actions_value (actions_requested self.now version)

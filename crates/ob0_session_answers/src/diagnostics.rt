@@ -1,8 +1,8 @@
-//! The diagnostics of a text, and their publication.
+//! Makes the diagnostics of a text, and their publication.
 //!
 //! The offsets of all starts and ends are sorted, and their positions are found in one pass
-//! (`TextStore::positions`). Each position is then looked up by binary search. The proof doesn't
-//! need that the look-up succeeds: if it fails, the store computes the position.
+//! (`TextStore::positions`). Each position is then looked up by binary search. If the look-up
+//! fails, the store computes the position, so the proof doesn't need that it succeeds.
 
 ghost use Rattle.std.specs.Prelude.{◌≡◌, List, IfOk, map};
 ghost use Rattle.std.specs.Str.{chars};
@@ -19,7 +19,7 @@ use ob0_session_json::publication::{Diagnostic, publication};
 use ob0_text::{Position, Range, TextStore};
 use std::alloc::{AllocError, Global};
 
-/// A request for the diagnostics of a document, as they are published.
+/// A request for the publication of a document's diagnostics.
 #[derive(Drop)]
 pub struct PublishRequest<'a> {
     pub uri: &'a str,
@@ -41,7 +41,7 @@ impl<'a, T: TextStore> DocumentRequest<T> for PublishRequest<'a> {
     }
 }
 
-/// Returns the diagnostics that are published for a text.
+/// Returns the diagnostics of a text, with positions in the store's unit.
 pub fn diagnostics<T: TextStore>(
     alloc: Global,
     store: &T,
@@ -77,7 +77,7 @@ fn all_diagnostics<T: TextStore>(
     )
 }
 
-/// Returns the offsets at which diagnostics start and end, in text order.
+/// Returns the byte offsets at which diagnostics start and end, in ascending order.
 fn offsets_of(alloc: Global, reported: &[Diagnosis]) -> Result<Vec<usize>, AllocError> {
     let mut offsets = Vec::new(alloc);
     for diagnosis in reported {
@@ -88,7 +88,7 @@ fn offsets_of(alloc: Global, reported: &[Diagnosis]) -> Result<Vec<usize>, Alloc
     Ok(offsets)
 }
 
-/// Returns the diagnostics. Their positions are looked up among offsets in text order.
+/// Returns the diagnostics with their positions, which are looked up in a list of byte offsets.
 fn list_diagnostics<T: TextStore>(
     alloc: Global,
     store: &T,
@@ -111,7 +111,8 @@ fn list_diagnostics<T: TextStore>(
     Ok(list)
 }
 
-/// Returns the position of an offset, which is looked up among offsets in text order.
+/// Returns the position of a byte offset, from the positions of a list of offsets if it is found
+/// there.
 fn position_at<T: TextStore>(
     store: &T,
     offsets: &[usize],
@@ -128,7 +129,7 @@ fn position_at<T: TextStore>(
     }
 }
 
-/// Returns the diagnostic of a diagnosis, whose message is moved.
+/// Returns the diagnostic of a diagnosis at these positions. The message is moved, not copied.
 fn diagnostic(diagnosis: Diagnosis, start: Position, end: Position) -> Diagnostic
     ensures { diagnostic_in result ≡ record {
       code = (complaint_in diagnosis).code;

@@ -1,6 +1,6 @@
-//! The requests about a document. Each is a type that answers from the document's text. There are
-//! questions about the name or field at a position, requests for edits, and the publication of the
-//! diagnostics.
+//! Defines the requests about a document, each as a type that answers from the document's text.
+//! There are questions about the name or field at a position, requests for edits, and the
+//! publication of the diagnostics.
 #![tactic(auto)]
 
 mod actions;

@@ -1,7 +1,8 @@
-//! Requests about the name or field at a position: hover, definition, references, prepareRename.
+//! Answers requests about the name or field at a position: hover, definition, references and
+//! prepareRename.
 //!
-//! Each request is a type that answers from a document (`DocumentRequest`). What it needs to know
-//! about the module is a `Question`.
+//! Each request is a type that answers from a document (`DocumentRequest`). Its question about the
+//! module is another type, a `Question`.
 
 ghost use Rattle.std.specs.Prelude.{◌≡◌, IfOk, option_map, map};
 ghost use Rattle.serde_json.specs.Data.{array};
@@ -23,7 +24,7 @@ use ob0_session_json::places::{HoverResult, Location, Locations, MarkupContent};
 use ob0_text::TextStore;
 use std::alloc::{AllocError, Global};
 
-/// Asks for the hover text at this place of the text.
+/// The question for the hover text at a byte offset.
 #[derive(Drop)]
 struct HoverAt {
     offset: usize,
@@ -43,7 +44,7 @@ impl Question for HoverAt {
     }
 }
 
-/// Asks for the declaration of the name or field at this place of the text.
+/// The question for the declaration of the name or field at a byte offset.
 #[derive(Drop)]
 struct DefinitionAt {
     offset: usize,
@@ -59,7 +60,7 @@ impl Question for DefinitionAt {
     }
 }
 
-/// Asks for all places that refer to the same declaration as this place of the text.
+/// The question for all references to the declaration of the name or field at a byte offset.
 #[derive(Drop)]
 struct ReferencesAt {
     offset: usize,
@@ -77,7 +78,7 @@ impl Question for ReferencesAt {
     }
 }
 
-/// Asks for the name or field at this place of the text that could be renamed.
+/// The question for the span of the name or field at a byte offset, if it can be renamed.
 #[derive(Drop)]
 struct RenamableAt {
     offset: usize,
@@ -93,7 +94,7 @@ impl Question for RenamableAt {
     }
 }
 
-/// A request for the hover text at a place of a document.
+/// A request for the hover text at a position of a document.
 #[derive(Drop)]
 pub struct HoverRequest<'a> {
     pub id: &'a Id,
@@ -119,7 +120,7 @@ impl<'a, T: TextStore> DocumentRequest<T> for HoverRequest<'a> {
     }
 }
 
-/// A request for the declaration of the name or field at a place of a document.
+/// A request for the declaration of the name or field at a position of a document.
 #[derive(Drop)]
 pub struct DefinitionRequest<'a> {
     pub id: &'a Id,
@@ -146,7 +147,7 @@ impl<'a, T: TextStore> DocumentRequest<T> for DefinitionRequest<'a> {
     }
 }
 
-/// A request for all references to the name or field at a place of a document.
+/// A request for all references to the name or field at a position of a document.
 #[derive(Drop)]
 pub struct ReferencesRequest<'a> {
     pub id: &'a Id,
@@ -178,7 +179,7 @@ impl<'a, T: TextStore> DocumentRequest<T> for ReferencesRequest<'a> {
     }
 }
 
-/// A request for the range of the name or field at a place of a document, if it can be renamed.
+/// A request for the range of the name or field at a position of a document, if it can be renamed.
 #[derive(Drop)]
 pub struct PrepareRenameRequest<'a> {
     pub id: &'a Id,
@@ -264,8 +265,8 @@ fn range_or_null<T: TextStore>(
     }
 }
 
-/// Returns the answer that lists spans as places of a document. If the spans are in text order, one
-/// pass finds them.
+/// Returns the answer that lists spans as locations in a document. If the spans are in text order,
+/// one pass over the text finds their positions.
 fn locations<T: TextStore>(
     alloc: Global,
     id: &Id,

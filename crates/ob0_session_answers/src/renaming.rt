@@ -15,7 +15,7 @@ use ob0_session_json::refusals::{refuse_because, refuse_ill_typed};
 use ob0_text::{Edit, TextStore};
 use std::alloc::{AllocError, Global};
 
-/// A request to rename the name or field at a place of a document.
+/// A request to rename the name or field at a position of a document.
 #[derive(Drop)]
 pub struct RenameRequest<'a> {
     pub id: &'a Id,

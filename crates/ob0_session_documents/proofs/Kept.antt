@@ -1,4 +1,4 @@
--- The entries of a cache after a call.
+-- Proves which entries a cache has after a call.
 use Rattle.std.proofs.Common.{◌≡◌, ◌∙◌, ℕ, ◌⊎◌, inl, inr, Bool, true, false, cond, take, List, [], ◌∷◌, Contains, IfSome, Bor, Option, option_copied, Some, None, String, string_bytes, Global, sym, ap, subst}
 use Rattle.std.specs.Str.{bytes_eq}
 use Rattle.std.specs.Map.{keys_of, lookup, remove_entry}
@@ -27,22 +27,23 @@ passes_none test (f ∷ es) e h c = elim (Contains-cons f es e c) [
   | inr d ↦ passes_none test es e h.1 d
 ]
 
--- an analysis that was removed from a cache was in it under the uri
+-- An analysis that was looked up under a uri is in the cache under that uri.
 pub found_in : (uri : List ℕ) (cache : LruCache (String Global) (List ℕ)) (text : List ℕ) → lookup (is_uri uri) cache.entries ≡ Some text → IsIn (Some cache) uri text
 found_in uri cache text h =
     let at = Contains-lookup (is_uri uri) cache.entries text h in (at.0, at.1, sym ((bytes_eq-Decides uri (string_bytes at.0)).0 at.2))
 
--- an analysis that was found in a cache is in it under the uri
+-- An analysis that `peek` found under a uri is in the cache under that uri.
 pub peeked_in : (uri : List ℕ) (cache : LruCache (String Global) (List ℕ)) (found : Option (Bor (List ℕ))) → option_copied found ≡ lookup (is_uri uri) cache.entries → IfSome found (λ a. IsIn (Some cache) uri a.now)
 peeked_in uri cache None h = tt
 peeked_in uri cache (Some a) h = found_in uri cache a.now (sym h)
 
--- the entries after a document was promoted
+-- After an entry was promoted, every entry of the cache was in it before.
 pub promoted_in : (document : List ℕ) (old new : LruCache (String Global) (List ℕ)) → new.entries ≡ promoted (is_uri document) old.entries → (u t : List ℕ) → IsIn (Some new) u t → IsIn (Some old) u t
 promoted_in document old new is u t h =
     (h.0, Contains-promoted (is_uri document) old.entries (h.0, t) (subst (λ l. Contains l (h.0, t)) is h.1), h.2)
 
--- the entries after one was removed have other uris
+-- After the entry of a uri was removed, every entry of the cache was in it before and has another
+-- uri.
 pub left_in : (uri : List ℕ) (old new : LruCache (String Global) (List ℕ)) → IsDistinct string_eq (keys_of old.entries) → new.entries ≡ remove_entry (is_uri uri) old.entries
     → (u text : List ℕ) → IsIn (Some new) u text → IsIn (Some old) u text × (u ≡ uri → ⊥)
 left_in uri old new distinct is u text h =
@@ -57,7 +58,7 @@ left_in uri old new distinct is u text h =
           let ties : string_eq key key ≡ true = string_eq_equiv.refl key in absurd cc,
     )
 
--- the entries after an analysis was added
+-- After an analysis was added, every entry of the cache was in it before or is the added one.
 pub put_in : (old new : LruCache (String Global) (List ℕ)) (key : String Global) (text : List ℕ) → new.entries ≡ put_entries string_eq old key text
     → (u t : List ℕ) → IsIn (Some new) u t → IsIn (Some old) u t ⊎ ((u ≡ string_bytes key) × (t ≡ text))
 put_in old new key text is u t h =
@@ -72,6 +73,6 @@ put_in old new key text is u t h =
       )
     ]
 
--- the entries after the oldest were removed
+-- After the oldest entries were removed, every entry of the cache was in it before.
 pub older_in : (old new : LruCache (String Global) (List ℕ)) (n : ℕ) → new.entries ≡ take n old.entries → (u t : List ℕ) → IsIn (Some new) u t → IsIn (Some old) u t
 older_in old new n is u t h = (h.0, Contains-take n old.entries (h.0, t) (subst (λ l. Contains l (h.0, t)) is h.1), h.2)

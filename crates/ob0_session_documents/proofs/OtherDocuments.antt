@@ -1,4 +1,5 @@
--- A change of one document leaves the other documents, and their kept analyses, unchanged.
+-- Proves that a change of one document leaves the other documents, and their kept analyses,
+-- unchanged.
 use Rattle.std.proofs.Common.{◌≡◌, ◌∙◌, ℕ, ℤ, true, false, cond, List, Option, Some, None, refl, ap}
 use Rattle.std.specs.Ordering.{nat_cmp, eq_by_cmp}
 use Rattle.std.specs.Cmp.Lexicographic.{slice_cmp, nat_list_cmp_total}
@@ -31,7 +32,7 @@ module _ (m : Documents) (uri u : List ℕ) (other : u ≡ uri → ⊥) where
   updated_at f None e = ap (λ n. map_of.get n u) (updated-none m uri f e)
   updated_at f (Some d) e = ap (λ n. map_of.get n u) (updated-some m uri f d e) ∙ inserted (f d)
 
--- states that at every other uri both have the same document
+-- Holds if both states have the same document at every uri except this one.
 abbrev pub AgreesElsewhere : OpenDocuments → List ℕ → OpenDocuments → Type 0
 AgreesElsewhere old uri new = (u : List ℕ) → (u ≡ uri → ⊥) → document_at new u ≡ document_at old u
 
@@ -48,8 +49,8 @@ lost_elsewhere old new uri is u other = ap (λ d. document_at d u) is ∙ update
 pub closed_elsewhere : (old new : OpenDocuments) (uri : List ℕ) → new ≡ closed old uri → AgreesElsewhere old uri new
 closed_elsewhere old new uri is u other = ap (λ d. document_at d u) is ∙ removed old.by_uri uri u other
 
--- after the analysis of a document was removed, the other analyses still belong to their texts,
--- however this document changed
+-- If the analysis of a document was removed and only that document changed, each kept analysis is
+-- of the current text of its document.
 pub still_theirs : (old new : OpenDocuments) (before after : Analyses) (uri : List ℕ)
     → AreOfTheirTexts old before → KeepsOthers before uri after → AgreesElsewhere old uri new → AreOfTheirTexts new after
 still_theirs old new before after uri theirs others agrees u text kept =

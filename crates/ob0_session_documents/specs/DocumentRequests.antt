@@ -1,4 +1,4 @@
--- The outcome of a request about a document.
+-- Defines the outcome of a request about a document.
 -- Rule: docs/PROTOCOL.md, Order of checks, and errors (`unopened`, `out of step`).
 use Rattle.std.specs.Prelude.{◌≡◌, ℕ, ℤ, List, Some, None}
 use Rattle.ob0_text.specs.OpenDocuments.{OpenDocuments, document_at}
@@ -7,9 +7,9 @@ use Rattle.ob0_text.specs.declared.position_types.Unit.{Unit}
 use Rattle.ob0_session_documents.specs.declared.document_requests.RequestOutcome.{RequestOutcome}
 use Rattle.ob0_session_documents.specs.declared.document_requests.RequestOutcome.TheVariants.{Answered, OutOfStep, Unopened}
 
--- States that an outcome is right. If the document is in step, it is a message that answers the
--- request for its version and text. Otherwise it says that the document is out of step or isn't
--- open
+-- Holds if this is the outcome of a request about the document with this uri. If the document is in
+-- step, the outcome is a message that answers the request for its version and text. Otherwise the
+-- outcome says that the document is out of step or isn't open.
 abbrev pub ComesOfRequest : (ℤ → Unit → List ℕ → List ℕ → Type 0)
     → OpenDocuments
     → List ℕ

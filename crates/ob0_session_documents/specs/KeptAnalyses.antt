@@ -1,4 +1,4 @@
--- Which analyses are kept, and for which texts.
+-- Defines which analyses are kept, and for which texts.
 -- Rule: none; for contracts: what the session keeps of the open documents.
 use Rattle.std.specs.Prelude.{◌≡◌, ◌⊎◌, ℕ, ℤ, List, Contains, Option, Some, None, String, string_bytes}
 use Rattle.std.specs.Str.{chars}
@@ -7,39 +7,39 @@ use Rattle.lru.specs.LruCache.{LruCache}
 use Rattle.ob0_text.specs.OpenDocuments.{OpenDocuments, InStep, document_at}
 use Rattle.ob0_session_documents.specs.declared.analyses.Analyses.{Analyses}
 
--- states that the cache contains an analysis of the text under the uri
+-- Holds if the cache contains an analysis of the text under the uri. No cache (None) contains none.
 abbrev pub IsIn : Option (LruCache (String Global) (List ℕ)) → List ℕ → List ℕ → Type 0
 IsIn None uri text = ⊥
 IsIn (Some cache) uri text =
     (key : String Global) × Contains cache.entries (key, text) × (string_bytes key ≡ uri)
 
--- states that an analysis of the text is kept for the document with this uri
+-- Holds if an analysis of the text is kept for the document with this uri.
 abbrev pub KeepsAnalysis : Analyses → List ℕ → List ℕ → Type 0
 KeepsAnalysis analyses = IsIn analyses.by_uri
 
--- states that every kept analysis was kept before
+-- Holds if every analysis kept now was kept before.
 abbrev pub KeepsOnly : Analyses → Analyses → Type 0
 KeepsOnly old new = (uri text : List ℕ) → KeepsAnalysis new uri text → KeepsAnalysis old uri text
 
--- states that every kept analysis was kept before, for another document than this one
+-- Holds if every analysis kept now was kept before and belongs to a document other than this one.
 abbrev pub KeepsOthers : Analyses → List ℕ → Analyses → Type 0
 KeepsOthers old document new =
     (uri text : List ℕ)
     → KeepsAnalysis new uri text
     → KeepsAnalysis old uri text × (uri ≡ document → ⊥)
 
--- states that every kept analysis was kept before, or belongs to this document and this text
+-- Holds if every analysis kept now was kept before, or is of this document and this text.
 abbrev pub KeepsAlso : Analyses → List ℕ → List ℕ → Analyses → Type 0
 KeepsAlso old document its_text new =
     (uri text : List ℕ) → KeepsAnalysis new uri text
     → KeepsAnalysis old uri text ⊎ ((uri ≡ document) × (text ≡ its_text))
 
--- states that the document is open and in step, and has this text (in bytes)
+-- Holds if the document is open and in step, and has this text (in bytes of UTF-8).
 abbrev pub HasDocumentText : OpenDocuments → List ℕ → List ℕ → Type 0
 HasDocumentText documents uri text =
     (version : ℤ) × (document_at documents uri ≡ Some (InStep version (chars text)))
 
--- states that each kept analysis belongs to the current text of its document
+-- Holds if each kept analysis is of the current text of its document.
 abbrev pub AreOfTheirTexts : OpenDocuments → Analyses → Type 0
 AreOfTheirTexts documents analyses =
     (uri text : List ℕ) → KeepsAnalysis analyses uri text → HasDocumentText documents uri text

@@ -1,11 +1,10 @@
-//! The open documents, with analyses of the most recently reported or queried ones.
+//! Keeps the open documents, and analyses of those that were changed or asked about most recently.
 //!
 //! The model is the model of the documents, so `ServerState` and all promises are the same as
-//! without analyses. The invariant says that each kept analysis belongs to the current text of its
-//! document (`AreOfTheirTexts` of `specs/KeptAnalyses`). Before a document is changed, its analysis
-//! is removed (`still_theirs` of `proofs/OtherDocuments`); afterwards the analysis of the new text
-//! is added. No texts are compared. One notification causes one analysis, however many changes it
-//! has.
+//! without analyses. The invariant says that each kept analysis is of the current text of its
+//! document (`AreOfTheirTexts` of `specs/KeptAnalyses`). Before a document changes, its analysis is
+//! removed (`still_theirs` of `proofs/OtherDocuments`). Afterwards the analysis of the new text is
+//! added. No texts are compared. One notification causes one analysis, however many changes it has.
 
 ghost use Rattle.std.specs.Prelude.{◌≡◌, ◌⊎◌, IfSome, IfOk, OnOk, OnErr, is_some, map, string_bytes};
 ghost use Rattle.std.specs.Str.{chars};
@@ -20,8 +19,8 @@ use std::alloc::{AllocError, Global};
 use std::marker::Model;
 
 /// The open documents, and analyses of their texts. Contracts see only the documents. A kept
-/// analysis always belongs to the current text of its document, because each change removes the
-/// analysis of the previous text first.
+/// analysis is always of the current text of its document, because each change first removes the
+/// analysis of the previous text.
 #[derive(Drop)]
 pub struct AnalysedDocuments<T: TextStore> {
     alloc: Global,
@@ -43,7 +42,7 @@ impl<T: TextStore> Model for AnalysedDocuments<T> {
 }
 
 impl<T: TextStore> AnalysedDocuments<T> {
-    /// Returns these documents, without any analysis.
+    /// Returns these documents, with no analysis kept.
     pub fn new(alloc: Global, documents: Documents<T>) -> AnalysedDocuments<T>
         ensures { result ≡ documents }
     {
@@ -61,9 +60,9 @@ impl<T: TextStore> AnalysedDocuments<T> {
         &self.documents
     }
 
-    /// Opens a document, or replaces its version and text if it is open, and analyses the text. The
-    /// received text is dropped before the analysis. If an allocation fails, either nothing has
-    /// changed or the document has been opened with this text.
+    /// Opens a document and analyses its text. If the document is already open, its version and
+    /// text are replaced. The received text is dropped before the analysis. If an allocation fails,
+    /// either nothing has changed or the document has been opened with this text.
     pub fn did_open(&mut self, uri: &str, version: i64, text: String) -> Result<(), AllocError>
         ensures ok { OnOk result
             (self.new ≡ opened self.old uri.now version (chars (string_bytes text))) }
@@ -77,8 +76,8 @@ impl<T: TextStore> AnalysedDocuments<T> {
     }
 
     /// Applies the changes in order, and analyses the resulting text. The received changes are
-    /// dropped before the analysis. If an allocation fails, the document is out of step, or all
-    /// changes have been applied.
+    /// dropped before the analysis. If an allocation fails, either the document is out of step or
+    /// all changes have been applied.
     pub fn did_change(
         &mut self,
         uri: &str,
@@ -96,7 +95,7 @@ impl<T: TextStore> AnalysedDocuments<T> {
         self.analyse(uri, before)
     }
 
-    /// Marks an open document as out of step: the client's text is no longer known.
+    /// Marks a document, if it is open, as out of step: the client's text is no longer known.
     pub fn lose(&mut self, uri: &str)
         ensures { self.new ≡ lost self.old uri.now }
     {
@@ -104,7 +103,7 @@ impl<T: TextStore> AnalysedDocuments<T> {
         self.documents.lose(uri);
     }
 
-    /// Closes a document and returns whether it was open.
+    /// Closes a document, and returns whether it was open.
     pub fn did_close(&mut self, uri: &str) -> bool
         ensures after { self.new ≡ closed self.old uri.now }
         ensures was_open { result ≡ is_some (document_at self.old uri.now) }
@@ -113,8 +112,9 @@ impl<T: TextStore> AnalysedDocuments<T> {
         self.documents.did_close(uri)
     }
 
-    /// Answers a request about a document that is in step. A kept analysis of its text is used in
-    /// place. Otherwise one is made and kept for later requests.
+    /// Answers a request about the document with this uri. If an analysis of its text is kept, that
+    /// one is used; otherwise a new one is made and kept. If the document isn't open or is out of
+    /// step, the outcome says so.
     pub fn ask<Q: DocumentRequest<T>>(
         &mut self,
         uri: &str,
@@ -140,8 +140,8 @@ impl<T: TextStore> AnalysedDocuments<T> {
         }
     }
 
-    /// Analyses the text of a document, starting from the analysis of its previous text, and keeps
-    /// the result.
+    /// Analyses the text of a document and keeps the result. The analysis of its previous text, if
+    /// there is one, is reused. If the document isn't open or is out of step, nothing happens.
     fn analyse(&mut self, uri: &str, before: Option<Analysis>) -> Result<(), AllocError>
         ensures { self.new ≡ self.old }
     {
@@ -155,7 +155,7 @@ impl<T: TextStore> AnalysedDocuments<T> {
     }
 }
 
-/// Returns the analysis of a text, starting from the analysis of another text if there is one.
+/// Returns the analysis of a text. The analysis of an earlier text, if there is one, is reused.
 fn analysis_after(
     alloc: Global,
     before: Option<Analysis>,

@@ -1,9 +1,9 @@
-//! The analyses of the most recently reported or queried documents.
+//! Keeps the analyses of the documents that were changed or asked about most recently.
 //!
-//! The contracts state only one direction. An analysis that is kept after a call was kept before it
-//! (`KeepsOnly`), belongs to another document (`KeepsOthers`), or is the added one (`KeepsAlso`).
-//! So code that drops more analyses meets them as well. `put` drops the least recently used
-//! analyses if the total is too large.
+//! The contracts state only one direction: every analysis that is kept after a call was kept before
+//! (`KeepsOnly`), was kept before for another document (`KeepsOthers`), or is the added one
+//! (`KeepsAlso`). Code that drops more analyses meets them as well. `put` drops the least recently
+//! used analyses if the total size is too large.
 
 ghost use Rattle.std.specs.Prelude.{◌≡◌, ◌∷◌, ◌≤◌, [], IfSome, IfOk};
 ghost use Rattle.ob0_session_documents.specs.KeptAnalyses.{KeepsAnalysis, KeepsAlso, KeepsOnly, KeepsOthers};
@@ -12,26 +12,26 @@ use lru::LruCache;
 use ob0_analysis::Analysis;
 use std::alloc::{AllocError, Global};
 
-/// The greatest total size of the kept analyses, in bytes, if there are several: about the size of
-/// four analyses of the longest texts.
+/// The greatest total size of several kept analyses, in bytes: about four analyses of the longest
+/// texts. A single analysis may be larger.
 const MAX_BYTES: usize = 4_198_400;
 
-/// The size that each analysis counts for, in addition to the bytes of its uri and of its data. It
-/// also bounds the number of analyses of empty texts.
+/// The number of bytes that each analysis counts for, in addition to the bytes of its uri and of
+/// its data. This also bounds the number of analyses of empty texts.
 const BYTES_PER_ANALYSIS: usize = 1_024;
 
-/// Analyses of texts by the uris of their documents. An added analysis may be dropped at any time.
+/// Analyses of texts, by the uris of their documents. An added analysis may be dropped at any time.
 #[derive(Drop)]
 pub struct Analyses {
     alloc: Global,
-    /// None until the first analysis is kept, because making a cache allocates.
+    /// The cache, or None until the first analysis is kept, because making a cache allocates.
     by_uri: Option<LruCache<String, Analysis>>,
-    /// The total size of the kept analyses, in bytes.
+    /// The total size that the kept analyses count for, in bytes.
     bytes: usize,
 }
 
 impl Analyses {
-    /// Returns a state without analyses.
+    /// Returns an empty collection of analyses.
     pub fn new(alloc: Global) -> Analyses
         ensures { (uri : _) (text : _) → KeepsAnalysis result uri text → ⊥ }
     {
@@ -42,20 +42,20 @@ impl Analyses {
         }
     }
 
-    /// Removes the analysis of a document and returns it, if one is kept.
+    /// Removes the analysis of a document and returns it. Returns None if no analysis is kept.
     pub fn take(&mut self, uri: &str) -> Option<Analysis>
         ensures found { IfSome result (KeepsAnalysis self.old uri.now) }
         ensures others { KeepsOthers self.old uri.now self.new }
     {
         let by_uri = self.by_uri.as_mut()?;
-        // For the proof: the contract of this call is needed.
+        // The proof needs the contract of this call.
         let _count = by_uri.len();
         let analysis = by_uri.pop(uri)?;
         self.bytes = self.bytes.saturating_sub(bytes_of(uri, &analysis));
         Some(analysis)
     }
 
-    /// Returns the analysis of a document, if one is kept.
+    /// Returns the analysis of a document, or None if no analysis is kept.
     pub fn get(&self, uri: &str) -> Option<&Analysis>
         ensures { IfSome result (λ a. KeepsAnalysis self.now uri.now a.now) }
     {
@@ -72,9 +72,8 @@ impl Analyses {
         }
     }
 
-    /// Keeps the analysis of a document, and drops the least recently used ones if the total is too
-    /// large. An analysis that by itself is too large, such as an analysis of a text that is too
-    /// long, is the only one kept.
+    /// Keeps the analysis of a document. If the total size is too large, the least recently used
+    /// analyses are dropped. An analysis that is too large by itself is kept as the only one.
     pub fn put(&mut self, uri: &str, analysis: Analysis) -> Result<(), AllocError>
         ensures { KeepsAlso self.old uri.now analysis self.new }
     {
@@ -95,8 +94,8 @@ impl Analyses {
         Ok(())
     }
 
-    /// Counts this many bytes more, and drops the least recently used analyses until the total is
-    /// within the bound.
+    /// Adds this many bytes to the total, and drops the least recently used analyses. It stops when
+    /// the total is within the bound or no analysis is left.
     fn free(&mut self, bytes: usize)
         ensures { KeepsOnly self.old self.new }
     {
@@ -118,8 +117,8 @@ impl Analyses {
     }
 }
 
-/// Returns the size that an analysis counts for. Its uri is included, because the cache stores its
-/// own copy.
+/// Returns the number of bytes that an analysis counts for. Its uri is included, because the cache
+/// stores its own copy.
 fn bytes_of(uri: &str, analysis: &Analysis) -> usize
     ensures { BYTES_PER_ANALYSIS ≤ result }
 {

@@ -1,4 +1,4 @@
-//! Requests about a document, and their outcomes.
+//! Defines requests about a document, and their outcomes.
 
 ghost use Rattle.std.specs.Prelude.{◌≡◌, ℕ, ℤ, List, IfOk};
 ghost use Rattle.std.specs.Str.{chars};
@@ -10,8 +10,8 @@ use std::alloc::{AllocError, Global};
 
 /// A request about a document that is in step.
 pub trait DocumentRequest<T: TextStore> {
-    /// States that a message answers the request for this version of the document, unit of
-    /// positions and text.
+    /// Holds if these bytes answer the request for a document with this version, unit of positions
+    /// and text (in characters).
     ghost answers: { Self → ℤ → Unit → List ℕ → List ℕ → Type 0 };
 
     fn answer(

@@ -1,4 +1,4 @@
-//! The open documents, with kept analyses of their texts.
+//! Keeps the open documents, with analyses of their texts.
 #![tactic(auto)]
 
 mod analysed_documents;

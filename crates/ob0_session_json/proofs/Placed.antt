@@ -1,4 +1,4 @@
--- The text of a place, built from its end backwards.
+-- Proves that building a location's text backwards from its end gives the right text.
 use Rattle.std.proofs.Common.{◌≡◌, ◌∙◌, ◌≤◌, ◌+◌, ◌-◌, ℕ, List, [], ◌∷◌, ◌++◌, Bool, true, false, length, drop, codes, ap, arith, refl, sym, append-nil, length-append, if◌then◌else◌}
 use Rattle.std.proofs.lemmas.List.{drop-drop, drop_at, length-drop}
 use Rattle.serde_json.specs.Data.{string}
@@ -10,7 +10,7 @@ use Rattle.ob0_rpc.proofs.Appending.{name, object_text_of_two, read_two}
 use Rattle.ob0_session_json.specs.Places.{EndsInUri}
 use Rattle.ob0_session_json.specs.Shapes.{location_in}
 
--- the text after the range is unchanged
+-- If a text was written right before index 192, the bytes at index 192 and later are unchanged.
 pub kept : (old new text : List ℕ) (at : ℕ) → length new ≡ length old → 192 ≤ length old → at ≤ 192 → drop at new ≡ text ++ drop 192 old → drop 192 new ≡ drop 192 old
 kept old new text at same long low is =
     let count : length text ≡ 192 - at = omega (arith, ap length is, length-drop at new, length-append text (drop 192 old), length-drop 192 old, same, long, low) in
@@ -27,7 +27,8 @@ module _ (uri : List ℕ) (range : Range) (at : ℕ) (before buffer : List ℕ) 
   text_put true old new is = is ∙ ap (λ t. old ++ t) whole
   text_put false old new is = is ∙ ap (λ t. old ++ t) (sym (drop-drop 1 at buffer) ∙ ap (drop 1) whole)
 
-  -- a place's text that was built in such a buffer and appended, with a comma or without
+  -- Appending a location's text from such a buffer, with or without its comma, appends that
+  -- location as an item of a list.
   pub location_put : (later : Bool) (old new : List ℕ) → IsReadBack (range_value range.start range.end) → new ≡ old ++ drop (if later then at else at + 1) buffer → AppendsItem later (location_in uri range) old new
   location_put later old new reads is = record {
     text = text_put later old new is;

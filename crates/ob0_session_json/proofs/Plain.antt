@@ -1,4 +1,4 @@
--- Publications, edits and actions are nested only a few levels deep.
+-- Proves that publications, edits and actions are nested only a few levels deep.
 use Rattle.std.proofs.Common.{◌≡◌, ◌≤◌, ℕ, ℤ, pos, negsuc, List, [], ◌∷◌, Bool, true, false, Option, Some, None, map, arith, refl}
 use Rattle.serde_json.specs.Data.{Data, array, depth, items_depth}
 use Rattle.serde_json.specs.View.{items_of}

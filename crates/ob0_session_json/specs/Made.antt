@@ -1,4 +1,4 @@
--- The meaning of the code's values.
+-- Defines the JSON values of the code's results.
 -- Rule: none; for contracts: what values of the code mean.
 use Rattle.std.specs.Prelude.{◌≡◌, List, map, string_bytes}
 use Rattle.serde_json.specs.Data.{Data}
@@ -7,15 +7,15 @@ use Rattle.ob0_session_json.specs.declared.edits.CodeAction.{CodeAction}
 use Rattle.ob0_session_json.specs.declared.edits.WorkspaceEdit.{WorkspaceEdit}
 use Rattle.ob0_session_json.specs.declared.publication.Diagnostic.{Diagnostic}
 
--- the JSON value of the edits of one document
+-- Returns the JSON value of the edits of one document.
 abbrev pub workspace_edit_of : WorkspaceEdit → Data
 workspace_edit_of e = shapes.workspace_edit e.client e.uri.now e.version e.edits.now
 
--- the JSON value of an action
+-- Returns the JSON value of a code action.
 abbrev pub action_in : CodeAction → Data
 action_in a = shapes.action_value (workspace_edit_of a.edit) a.title.now
 
--- the meaning of a diagnostic
+-- Returns the meaning of the code's diagnostic.
 abbrev pub diagnostic_in : Diagnostic → shapes.Diagnostic
 diagnostic_in d = record {
   code = d.code.now;
@@ -24,6 +24,6 @@ diagnostic_in d = record {
   end = d.range.end;
 }
 
--- states that these are the diagnostics of a list
+-- Holds if these are the meanings of the code's diagnostics, in order.
 abbrev pub DiagnosticsAre : List shapes.Diagnostic → List Diagnostic → Type 0
 DiagnosticsAre ds list = ds ≡ map diagnostic_in list

@@ -1,4 +1,5 @@
--- The messages that the server writes, as JSON values. Members are in byte order of their names.
+-- Defines the messages that the server writes, as JSON values. Members are in byte order of their
+-- names.
 -- Rule: docs/PROTOCOL.md, JSON shapes 2, Capabilities.
 use Rattle.std.specs.Prelude.{ℕ, ℤ, List, true, Bool, Option, Some, None, if◌then◌else◌, codes, map}
 use Rattle.serde_json.specs.Data.{Data, boolean, number, array, object, unsigned, Members, member, no_members, item, no_items}
@@ -11,35 +12,37 @@ pub use Rattle.ob0_rpc.specs.Shapes.{edit_value}
 use Rattle.ob0_rpc.specs.Shapes.{text, whole_number, range_value, error_message, notification_message}
 use Rattle.ob0_rpc.specs.declared.clients.Client.{Client}
 
--- the synchronization of documents, {"change":2,"openClose":true}
+-- The synchronization of documents, {"change":2,"openClose":true}.
 abbrev pub synchronisation : Data
 synchronisation =
     object (member (codes "change") (number (unsigned 2))
     (member (codes "openClose") (boolean true) no_members))
 
--- {"prepareProvider":true} for a client that sends `prepareRename` before it requests a rename,
--- otherwise true
+-- Returns {"prepareProvider":true} for a client that sends `prepareRename` before it requests a
+-- rename, otherwise true.
 abbrev pub rename_provider : Bool → Data
 rename_provider prepares =
     if prepares
     then object (member (codes "prepareProvider") (boolean true) no_members)
     else boolean true
 
--- the kinds of code actions, {"codeActionKinds":["refactor.inline"]}
+-- The kinds of code actions, {"codeActionKinds":["refactor.inline"]}.
 abbrev pub action_provider : Data
 action_provider =
     object (member (codes "codeActionKinds")
     (array (item (text (codes "refactor.inline")) no_items)) no_members)
 
--- the last members: "referencesProvider":true,"renameProvider":R,"textDocumentSync":{..}
+-- Returns the last members of the capabilities:
+-- "referencesProvider":true,"renameProvider":R,"textDocumentSync":{..}.
 abbrev pub last_members : Client → Members
 last_members client =
     member (codes "referencesProvider") (boolean true) (member (codes "renameProvider")
     (rename_provider client.prepares_renames)
     (member (codes "textDocumentSync") synchronisation no_members))
 
+-- Returns the members of the capabilities after "definitionProvider":
 -- "documentFormattingProvider":true,"hoverProvider":true, then "positionEncoding":"utf-8" if the
--- client offers that, then the last members
+-- client offers that, then the last members.
 abbrev pub further_members : Client → Members
 further_members client =
     member (codes "documentFormattingProvider") (boolean true)
@@ -48,8 +51,8 @@ further_members client =
     then member (codes "positionEncoding") (text (codes "utf-8")) (last_members client)
     else last_members client))
 
--- the server's capabilities: "codeActionProvider":{..} if the client accepts actions that aren't
--- commands, then "definitionProvider":true and the further members
+-- Returns the server's capabilities: "codeActionProvider":{..} if the client accepts actions that
+-- aren't commands, then "definitionProvider":true and the further members.
 abbrev pub server_capabilities : Client → Data
 server_capabilities client =
     let members = member (codes "definitionProvider") (boolean true) (further_members client) in
@@ -58,57 +61,58 @@ server_capabilities client =
     then member (codes "codeActionProvider") action_provider members
     else members)
 
--- the result of `initialize`, {"capabilities":{..}}
+-- Returns the result of `initialize`, {"capabilities":{..}}.
 abbrev pub capabilities : Client → Data
 capabilities client =
     object (member (codes "capabilities") (server_capabilities client) no_members)
 
 -- ---- diagnostics
 
--- a diagnostic: its code, its message and its range
+-- A diagnostic: its code, its message, and its start and end.
 pub record Diagnostic : Type 0 where
   pub code : List ℕ
   pub said : List ℕ
   pub start : Position
   pub end : Position
 
--- a place in a document, {"range":R,"uri":u}
+-- Returns a location from its uri and the JSON value of its range, {"range":R,"uri":u}.
 abbrev pub location_value : List ℕ → Data → Data
 location_value uri range =
     object (member (codes "range") range (member (codes "uri") (text uri) no_members))
 
--- the JSON value of a range of the document with this uri
+-- Returns the location of a range in the document with this uri.
 abbrev pub location_in : List ℕ → Range → Data
 location_in uri range = location_value uri (range_value range.start range.end)
 
--- a text to display, {"kind":"plaintext","value":h}
+-- Returns a text to display, {"kind":"plaintext","value":h}.
 abbrev pub plain_text : List ℕ → Data
 plain_text said =
     object (member (codes "kind") (text (codes "plaintext"))
     (member (codes "value") (text said) no_members))
 
--- a hover, {"contents":{..},"range":R}
+-- Returns a hover from its text and the JSON value of its range, {"contents":{..},"range":R}.
 abbrev pub hover_value : List ℕ → Data → Data
 hover_value said range =
     object (member (codes "contents") (plain_text said) (member (codes "range") range no_members))
 
--- a list of edits, `[E,..]`
+-- Returns a list of edits, `[E,..]`.
 abbrev pub edits_value : List Edit → Data
 edits_value es = array (items_of (map edit_value es))
 
--- a document at a version, {"uri":u,"version":v}
+-- Returns a document at a version, {"uri":u,"version":v}.
 abbrev pub versioned_document : List ℕ → ℤ → Data
 versioned_document uri version =
     object
     (member (codes "uri") (text uri) (member (codes "version") (whole_number version) no_members))
 
--- the edits of a document at a version, {"edits":[E,..],"textDocument":{..}}
+-- Returns the edits of a document at a version, {"edits":[E,..],"textDocument":{..}}.
 abbrev pub document_edit : List ℕ → ℤ → List Edit → Data
 document_edit uri version es =
     object (member (codes "edits") (edits_value es)
     (member (codes "textDocument") (versioned_document uri version) no_members))
 
--- {"documentChanges":[..]} for a client that accepts it, otherwise {"changes":{u:[E,..]}}
+-- Returns the edits of a document: {"documentChanges":[..]} for a client that accepts it, otherwise
+-- {"changes":{u:[E,..]}}.
 abbrev pub workspace_edit : Client → List ℕ → ℤ → List Edit → Data
 workspace_edit client uri version es =
     if client.takes_document_changes
@@ -117,17 +121,18 @@ workspace_edit client uri version es =
     else object
     (member (codes "changes") (object (member uri (edits_value es) no_members)) no_members)
 
--- a code action, {"edit":W,"kind":"refactor.inline","title":t}
+-- Returns a code action from the JSON value of its edits and its title,
+-- {"edit":W,"kind":"refactor.inline","title":t}.
 abbrev pub action_value : Data → List ℕ → Data
 action_value edit title =
     object (member (codes "edit") edit (member (codes "kind") (text (codes "refactor.inline"))
     (member (codes "title") (text title) no_members)))
 
--- the refusal of a request for edits
+-- Returns the error that refuses a request for edits, with this message.
 abbrev pub edit_refused : Data → List ℕ → Data
 edit_refused id said = error_message id (minus 32803) said
 
--- a diagnostic, {"code":name,"message":m,"range":R,"severity":1}
+-- Returns the JSON value of a diagnostic, {"code":name,"message":m,"range":R,"severity":1}.
 abbrev pub diagnostic_value : Diagnostic → Data
 diagnostic_value d =
     object (member (codes "code") (text d.code)
@@ -135,12 +140,12 @@ diagnostic_value d =
     (member (codes "range") (range_value d.start d.end)
     (member (codes "severity") (number (unsigned 1)) no_members))))
 
--- a list of diagnostics, `[D,..]`
+-- Returns a list of diagnostics, `[D,..]`.
 abbrev pub diagnostics_value : List Diagnostic → Data
 diagnostics_value ds = array (items_of (map diagnostic_value ds))
 
--- the params of a publication, {"diagnostics":[D,..],"uri":u,"version":v}, without `version` after
--- a close
+-- Returns the params of a publication, {"diagnostics":[D,..],"uri":u,"version":v}. After a close
+-- the version is None, and `version` is left out.
 abbrev pub publication_params : List ℕ → Option ℤ → List Diagnostic → Data
 publication_params uri (Some version) ds =
     object (member (codes "diagnostics") (diagnostics_value ds) (member (codes "uri") (text uri)
@@ -149,7 +154,7 @@ publication_params uri None ds =
     object (member (codes "diagnostics") (diagnostics_value ds)
     (member (codes "uri") (text uri) no_members))
 
--- `textDocument/publishDiagnostics`, with a version or without
+-- Returns the notification `textDocument/publishDiagnostics`. After a close its version is None.
 abbrev pub publication : List ℕ → Option ℤ → List Diagnostic → Data
 publication uri version ds =
     notification_message (codes "textDocument/publishDiagnostics")

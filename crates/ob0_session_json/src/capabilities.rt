@@ -1,4 +1,4 @@
-//! The server's capabilities, in the answer to `initialize`.
+//! Writes the server's capabilities, in the answer to `initialize`.
 ghost use Rattle.std.specs.Prelude.{IfOk, OnOk};
 ghost use Rattle.ob0_rpc.specs.Appending.{AppendsMembers};
 ghost use Rattle.ob0_rpc.specs.Seen.{id_data};
@@ -18,7 +18,7 @@ pub fn initialize_answer(alloc: Global, id: &Id, client: Client) -> Result<Vec<u
     result_of(alloc, id, &InitializeResult { capabilities })
 }
 
-/// The result of `initialize`: an object that contains the server's capabilities.
+/// The result of `initialize`: an object with the server's capabilities.
 #[derive(Drop)]
 pub struct InitializeResult {
     pub capabilities: ServerCapabilities,
@@ -33,7 +33,7 @@ impl WriteJson for InitializeResult {
     }
 }
 
-/// The server's capabilities, which depend on the client's.
+/// The server's capabilities, which depend on the client's capabilities.
 #[derive(Drop)]
 pub struct ServerCapabilities {
     pub client: Client,
@@ -81,7 +81,7 @@ impl ServerCapabilities {
     }
 }
 
-/// The kinds of code actions that the server offers.
+/// The kinds of code actions that the server offers, as the value of `codeActionProvider`.
 #[derive(Drop)]
 pub struct CodeActionOptions {}
 
@@ -95,7 +95,7 @@ impl WriteJson for CodeActionOptions {
     }
 }
 
-/// Announces renaming, and `prepareRename` if the client sends it.
+/// The value of `renameProvider`, which announces `prepareRename` if the client sends it.
 #[derive(Drop)]
 pub struct RenameProvider {
     pub prepares: bool,
@@ -114,7 +114,7 @@ impl WriteJson for RenameProvider {
     }
 }
 
-/// How documents are synchronized: they are opened, changed by ranges, and closed.
+/// The value of `textDocumentSync`: documents are opened, changed by ranges, and closed.
 #[derive(Drop)]
 pub struct TextDocumentSyncOptions {}
 

@@ -1,4 +1,4 @@
-//! Edits of documents, and the code actions that apply them.
+//! Writes edits of documents, and the code actions that apply them.
 ghost use Rattle.ob0_session_json.specs.Made.{action_in, workspace_edit_of};
 ghost use Rattle.ob0_session_json.specs.Shapes.{document_edit, versioned_document};
 
@@ -7,7 +7,7 @@ use ob0_text::Edit;
 use std::alloc::AllocError;
 
 /// The edits of one document, in the form that the client accepts: with the document's version, or
-/// with only its uri.
+/// only with its uri.
 #[derive(Drop)]
 pub struct WorkspaceEdit<'a> {
     pub client: Client,
@@ -75,7 +75,7 @@ impl<'a> WriteJson for VersionedDocument<'a> {
     }
 }
 
-/// A code action that applies these edits, with its title.
+/// A code action: its edits and its title.
 #[derive(Drop)]
 pub struct CodeAction<'a> {
     pub edit: WorkspaceEdit<'a>,

@@ -1,5 +1,5 @@
-//! Results as types that write JSON (docs/PROTOCOL.md, JSON shapes): capabilities, diagnostics,
-//! places, edits and actions.
+//! Writes results as JSON (docs/PROTOCOL.md, JSON shapes): capabilities, diagnostics, locations,
+//! edits and actions.
 #![tactic(auto)]
 
 pub mod capabilities;

@@ -1,4 +1,4 @@
-//! Places in documents, and the text that hover displays for them.
+//! Writes locations in documents, and the text that hover displays.
 ghost use Rattle.std.specs.Prelude.{◌≡◌, ◌++◌, ◌<◌, ◌≤◌, false, IfOk, OnOk, codes, drop, length, map};
 ghost use Rattle.serde_json.specs.Data.{array};
 ghost use Rattle.serde_json.specs.View.{items_of};
@@ -15,13 +15,14 @@ use ob0_rpc::{
 use ob0_text::Range;
 use std::alloc::{AllocError, Global};
 
-/// The greatest length of a place's text before its uri.
+/// The number of bytes reserved for a location's text before its uri, which is never longer.
 const PREFIX_CAPACITY: usize = 192;
 
-/// An upper bound of that length for most places.
+/// The number of bytes that a location's text before its uri usually fits in. It is used to reserve
+/// room.
 const TYPICAL_PREFIX: usize = 96;
 
-/// A range of a document.
+/// A location: a range of the document with this uri.
 #[derive(Drop)]
 pub struct Location<'a> {
     pub range: Range,
@@ -38,7 +39,7 @@ impl<'a> WriteJson for Location<'a> {
     }
 }
 
-/// Ranges of a document, as a list of places.
+/// Several ranges of one document, written as a list of locations.
 #[derive(Drop)]
 pub struct Locations<'a> {
     pub ranges: &'a [Range],
@@ -74,8 +75,8 @@ fn write_locations(out: &mut Vec<u8>, uri: &str, ranges: &[Range]) -> Result<(),
     Ok(())
 }
 
-/// Returns a buffer in which a place's text is built. The text after the range is written once,
-/// behind free space for the text before it.
+/// Returns a buffer in which the text of each location is built. The text after the range is
+/// written once, after 192 bytes of free space for the text before it.
 fn buffer_for_uri(alloc: Global, uri: &str) -> Result<Vec<u8>, AllocError>
     ensures { IfOk result (λ buffer. EndsInUri uri.now buffer.items) }
 {
@@ -85,8 +86,8 @@ fn buffer_for_uri(alloc: Global, uri: &str) -> Result<Vec<u8>, AllocError>
     Ok(buffer)
 }
 
-/// Puts a comma and the beginning of a place's text, up to its range, before the text after the
-/// range. Returns the place in the buffer at which this begins.
+/// Writes a comma and the start of a location's text, including its range, right before the text
+/// that follows the range. Returns the index in the buffer at which the comma is.
 fn location_before(buffer: &mut [u8], range: Range) -> usize
     requires { 192 ≤ length buffer.old }
     ensures within { result < 192 }
@@ -99,7 +100,7 @@ fn location_before(buffer: &mut [u8], range: Range) -> usize
     piece_before(buffer, at, b",{\"range\":")
 }
 
-/// Plain text that is displayed for a range.
+/// The result of a hover: plain text, and the range for which it is displayed.
 #[derive(Drop)]
 pub struct HoverResult<'a> {
     pub contents: MarkupContent<'a>,
@@ -116,7 +117,7 @@ impl<'a> WriteJson for HoverResult<'a> {
     }
 }
 
-/// A text that is displayed unchanged.
+/// A text that is displayed unchanged, as plain text.
 #[derive(Drop)]
 pub struct MarkupContent<'a> {
     pub value: &'a str,

@@ -1,4 +1,4 @@
-//! The publication of a document's diagnostics.
+//! Writes the publication of a document's diagnostics.
 ghost use Rattle.std.specs.Prelude.{IfOk, List, map};
 ghost use Rattle.ob0_rpc.specs.Writing.{Writes};
 ghost use Rattle.ob0_session_json.specs.Shapes.{Diagnostic as Reported, diagnostic_value, publication as published_as, publication_params};
@@ -28,7 +28,7 @@ impl WriteJson for Diagnostic {
     }
 }
 
-/// The diagnostics of a document, with its version or without.
+/// The params of a publication: the diagnostics of a document, its uri, and its version or None.
 #[derive(Drop)]
 pub struct PublishDiagnostics<'a> {
     pub diagnostics: &'a [Diagnostic],

@@ -1,4 +1,4 @@
-//! The refusals of requests for edits.
+//! Writes the refusals of requests for edits.
 ghost use Rattle.std.specs.Prelude.{IfOk, codes};
 ghost use Rattle.ob0_rpc.specs.Seen.{id_data};
 ghost use Rattle.ob0_rpc.specs.Writing.{Writes};
@@ -16,7 +16,7 @@ pub fn refuse(alloc: Global, id: &Id, said: &str) -> Result<Vec<u8>, AllocError>
     error(alloc, Some(id), -32803, said)
 }
 
-/// Returns the refusal of a request for edits for this reason.
+/// Returns the refusal of a request for edits, with the text of this reason as its message.
 pub fn refuse_because(alloc: Global, id: &Id, refusal: EditRefusal) -> Result<Vec<u8>, AllocError>
     ensures { IfOk result
         (λ bytes. Writes (edit_refused (id_data id.now) (refusal_text refusal)) bytes.items) }
@@ -25,7 +25,7 @@ pub fn refuse_because(alloc: Global, id: &Id, refusal: EditRefusal) -> Result<Ve
     refuse(alloc, id, text.as_str())
 }
 
-/// Returns the refusal of a request for edits if the text isn't a well-typed module.
+/// Returns the refusal of a request for edits in a text that isn't a well-typed module.
 pub fn refuse_ill_typed(alloc: Global, id: &Id) -> Result<Vec<u8>, AllocError>
     ensures { IfOk result
         (λ bytes. Writes (edit_refused (id_data id.now) (codes "ill-typed")) bytes.items) }

@@ -1,4 +1,4 @@
--- From the contracts of the reader and of a reaction to the answers to a content.
+-- Proves that the server's reaction to a content meets the definition of its answers.
 use Rattle.std.proofs.Common.{◌≡◌, ◌≢◌, ◌∙◌, ℕ, ℤ, List, [], ◌∷◌, Option, Some, None, Result, Err, Vec, Global, option_map, map, sym, subst, ap, refl}
 use Rattle.std.specs.Option.{option_to_list}
 use Rattle.serde_json.specs.Data.{Data, null}
@@ -29,7 +29,7 @@ answered before content json m sent after reads means h =
     let P : MessageMeaning → Type 0 = λ x. Reacts (react before x) sent after in
     (json, reads, subst P (sym means) h)
 
--- a content that can't be read is refused
+-- If a content can't be read, the server's refusal is the right answer.
 pub refused : (before : ServerState) (content : List ℕ) (fault : RpcFault) (sent : Option (Vec ℕ Global))
     → ReadsAs content (Err fault) → fault ≢ Memory → Reacts (refuses_fault before null fault) sent before
     → AnswersGoingOn before content (option_to_list (option_map (λ v. v.items) sent)) before
@@ -39,7 +39,8 @@ refused before content Memory sent reads apart h = absurd (apart refl)
 refused before content UnknownMethod sent reads apart h = absurd reads.2
 refused before content BadParams sent reads apart h = absurd reads.2
 
--- a request that can't be read is refused as well
+-- If a request's params can't be read or its method isn't known, the server's refusal is the right
+-- reaction.
 pub request_refused : (s : ServerState) (id : Data) (requested : Result ClientRequest RpcFault) (fault : RpcFault) (sent : Option (Vec ℕ Global))
     → Requests requested (Err fault) → fault ≢ Memory → Reacts (refuses_fault s id fault) sent s
     → Reacts (answer_request s id requested) sent s
@@ -72,7 +73,7 @@ ended_step s content step status none next end =
     let empty : map (λ (v : Vec ℕ Global). v.items) step.send.items ≡ [] = ap (map (λ (v : Vec ℕ Global). v.items)) none in
     record { answers = subst P (sym empty) (ended s.phase status s content (sym end)); next = next ∙ end }
 
--- the publication after a change of the open documents
+-- Replacing the documents and publishing the diagnostics of one is the defined reaction.
 pub publishes : (before after : ServerState) (uri reported : List ℕ) (held : OpenDocuments) (sent : Option (Vec ℕ Global))
     → reported ≡ uri → after ≡ record before { held = held }
     → SaysReply (published after.held.unit reported (document_at after.held reported)) (option_to_list (option_map (λ v. v.items) sent))
@@ -82,7 +83,8 @@ publishes before after uri reported held sent same is said =
     let Q : OpenDocuments → Type 0 = λ h. SaysReply (published h.unit reported (document_at h reported)) (option_to_list (option_map (λ v. v.items) sent)) in
     (is, subst P same (subst Q (ap (λ (s : ServerState). s.held) is) said))
 
--- the reply to a request about a document, in terms of the server's fields
+-- The outcome of asking the documents gives the defined reply, if the other fields of the server
+-- are unchanged.
 pub replies_about : (phase : Phase) (client : Client) (old new : OpenDocuments) (s : ServerState) (id : Data) (uri : List ℕ) (answers : ℤ → Unit → List ℕ → List ℕ → Type 0)
     → (outcome : RequestOutcome) (sent : Option (Vec ℕ Global)) → record { phase = phase; client = client; held = old } ≡ s → new ≡ old → ComesOfRequest answers old uri outcome
     → RepliesWith id outcome sent → RepliesAbout answers s id uri sent (record { phase = phase; client = client; held = new })
@@ -90,7 +92,8 @@ replies_about phase client old new s id uri answers outcome sent is same comes r
     let P : ServerState → Type 0 = λ t. RepliesAbout answers t id uri sent (record { phase = phase; client = client; held = new }) in
     subst P is (ap (λ held. record { phase = phase; client = client; held = held }) same, (outcome, comes, replies))
 
--- the messages that are sent for a request about a document, if the documents are unchanged
+-- If each answer about the text is the reply for that text, the messages sent for a request are the
+-- defined reaction.
 pub reacts_about : (s new : ServerState) (id : Data) (uri : List ℕ) (say : ℤ → List ℕ → Reply) (answers : ℤ → Unit → List ℕ → List ℕ → Type 0) (sent : Option (Vec ℕ Global))
     → ((version : ℤ) (text message : List ℕ) → answers version s.held.unit text message → SaysReply (say version text) (message ∷ []))
     → RepliesAbout answers s id uri sent new → Reacts (answers_about s id (document_at s.held uri) say) sent new
@@ -110,7 +113,7 @@ reacts_about s new id uri say answers sent says (same, (outcome, comes, replies)
         let P : Option Document → Type 0 = λ d. Reacts (answers_about s id d say) sent s in
         subst P (sym comes) (refl, is)
 
--- the publication of a document
+-- The message of a publication request's outcome is the publication of the document.
 pub published_with : (held : OpenDocuments) (uri : List ℕ) (outcome : RequestOutcome) (sent : Option (Vec ℕ Global))
     → ComesOfRequest (λ version unit text message. Publishes unit uri version text message) held uri outcome → sent ≡ message_of outcome
     → SendsReply (published held.unit uri (document_at held uri)) sent

@@ -1,4 +1,4 @@
--- The server's answers, message by message.
+-- Defines the server's answers, message by message.
 -- Rule: docs/PROTOCOL.md, Order of checks, and errors; Lifecycle; Documents; Publishing; Requests on documents.
 use Rattle.std.specs.Prelude.{◌≡◌, ℕ, ℤ, List, [], ◌∷◌, ◌++◌, false, Option, Some, None, is_some, Result, Ok, Err, if◌then◌else◌, codes}
 use Rattle.std.specs.Str.{bytes_eq}
@@ -29,16 +29,16 @@ use Rattle.ob0_session_server.specs.declared.session.Phase.TheVariants.{Starting
 
 -- ---- the state that a server keeps between messages
 
--- the state of a session: its phase, the client, and the documents
+-- The state of a session: its phase, the client's capabilities and the open documents.
 pub record ServerState : Type 0 where
-  -- the phase of the lifecycle
+  -- The phase of the lifecycle.
   pub phase : Phase
-  -- the editor's capabilities
+  -- The client's capabilities.
   pub client : Client
-  -- the documents that the client has open, and the unit of positions
+  -- The documents that the client has open, and the unit in which positions are counted.
   pub held : OpenDocuments
 
--- the capabilities of a client that hasn't announced any
+-- The capabilities of a client that hasn't announced any.
 abbrev pub no_client : Client
 no_client =
     record {
@@ -48,38 +48,38 @@ no_client =
       takes_document_changes = false;
     }
 
--- the state before `initialize`
+-- The state before `initialize`.
 abbrev pub start : ServerState
 start = record { phase = Starting; client = no_client; held = none_open Utf16 }
 
 -- ---- the reply to one message
 
--- the reply to one message: nothing, a message, or diagnostics or an answer about a document's text
+-- The reply to one message: nothing, a message, or diagnostics or an answer that depends on a document's text.
 pub data Reply : Type 0 where
   nothing : Reply
-  -- this message
+  -- Exactly this message.
   says : Data → Reply
-  -- the diagnostics of a document: the unit of positions, its uri, its version and the characters
-  -- of its text
+  -- The diagnostics of a document. Arguments: the unit of positions, the uri, the version and the characters of the
+  -- text.
   diagnoses : Unit → List ℕ → ℤ → List ℕ → Reply
-  -- the edits that format a text, or the refusal: the unit, the request's id, the indentation and
-  -- the characters of the text
+  -- The edits that format a text, or the refusal. Arguments: the unit of positions, the request's id, the indentation
+  -- and the characters of the text.
   lays_out : Unit → Data → Indent → List ℕ → Reply
-  -- the answer about a position: the unit, the request's id, the document and position, the
-  -- question and the characters of the text
+  -- The answer to a question about a position. Arguments: the unit of positions, the request's id, the document and
+  -- position, the question and the characters of the text.
   answers_name : Unit → Data → At → NameQuestion → List ℕ → Reply
-  -- the edits that rename a declaration, or the refusal: the unit, the request and the characters
-  -- of the text
+  -- The edits that rename a declaration, or the refusal. Arguments: the unit of positions, the request and the
+  -- characters of the text.
   renames : Unit → RequestedRename → List ℕ → Reply
-  -- the offered code actions: the unit, the request and the characters of the text
+  -- The offered code actions. Arguments: the unit of positions, the request and the characters of the text.
   offers_actions : Unit → RequestedActions → List ℕ → Reply
 
--- states that exactly one content is sent, which is the text of this message
+-- Holds if exactly one content is sent, and it is the text of this message.
 abbrev pub Sends : Data → List (List ℕ) → Type 0
 Sends message sent = (bytes : List ℕ) × (sent ≡ bytes ∷ []) × Writes message bytes
 
--- States that these contents are the reply. The diagnostics are the text's: if it isn't a module by
--- the grammar, the single diagnostic of the token at which the parser stops.
+-- Holds if these contents are this reply: nothing, this message, or one message with the text's diagnostics or with the
+-- answer about the text.
 abbrev pub SaysReply : Reply → List (List ℕ) → Type 0
 SaysReply nothing sent = sent ≡ []
 SaysReply (says message) sent = Sends message sent
@@ -94,57 +94,57 @@ SaysReply (renames unit requested text) sent =
 SaysReply (offers_actions unit requested text) sent =
     (message : Data) × AnswersActions unit requested text message × Sends message sent
 
--- the state after a message, and the reply
+-- The reaction to a message: the state after it, and the reply.
 pub record Reaction : Type 0 where
   pub after : ServerState
   pub say : Reply
 
--- a reaction that leaves the state unchanged
+-- Returns the reaction that leaves the state unchanged and gives this reply.
 abbrev pub stays : ServerState → Reply → Reaction
 stays s say = record { after = s; say = say }
 
--- a reaction that moves the lifecycle to this phase
+-- Returns the reaction that moves the lifecycle to this phase and gives this reply.
 abbrev pub with_phase : Phase → ServerState → Reply → Reaction
 with_phase phase s say = record { after = record s { phase = phase }; say = say }
 
--- a reaction that replaces the documents
+-- Returns the reaction that replaces the documents and gives this reply.
 abbrev pub with_documents : OpenDocuments → ServerState → Reply → Reaction
 with_documents held s say = record { after = record s { held = held }; say = say }
 
--- a reaction that answers with an error and leaves the state unchanged
+-- Returns the reaction that answers with this error and leaves the state unchanged.
 abbrev pub refuses : ServerState → Data → ℤ → List ℕ → Reaction
 refuses s id code said = stays s (says (error_message id code said))
 
--- the error for a message that can't be read or isn't known
+-- Returns the reaction to a message that can't be read or whose method isn't known: an error.
 abbrev pub refuses_fault : ServerState → Data → RpcFault → Reaction
 refuses_fault s id fault = refuses s id (error_code fault) (error_text fault)
 
 -- ---- requests: first the lifecycle is checked, then the method, then the params
 
--- the state in which a client begins, without any document
+-- Returns the state after `initialize`, in which no document is open.
 abbrev pub begins : Client → ServerState
 begins client = record { phase = Running; client = client; held = none_open (unit_for client) }
 
--- the reply about the version and text of a document that is open and in step; otherwise the
--- request is refused
+-- Returns the reaction to a request about a document: the reply for its version and text if it is open and in step,
+-- otherwise a refusal.
 abbrev pub answers_about : ServerState → Data → Option Document → (ℤ → List ℕ → Reply) → Reaction
 answers_about s id (Some (InStep version text)) say = stays s (say version text)
 answers_about s id (Some OutOfStep) say = stays s (says (edit_refused id (codes "out of step")))
 answers_about s id None say = stays s (says (edit_refused id (codes "unopened")))
 
--- a question about a position
+-- Returns the reaction to a question about a position.
 abbrev pub requests_name : ServerState → Data → At → NameQuestion → Reaction
 requests_name s id at question =
     answers_about s id (document_at s.held at.uri)
     (λ version. answers_name s.held.unit id at question)
 
--- a request to rename the name or field at a position
+-- Returns the reaction to a request to rename the name or field at a position.
 abbrev pub requests_rename : ServerState → Data → At → List ℕ → Reaction
 requests_rename s id at new =
     answers_about s id (document_at s.held at.uri) (λ version. renames s.held.unit
     (record { id = id; client = s.client; at = at; version = version; new = new }))
 
--- a request for code actions in a range
+-- Returns the reaction to a request for code actions in a range.
 abbrev pub requests_actions : ServerState
     → Data
     → List ℕ
@@ -156,12 +156,12 @@ requests_actions s id uri range only =
     (λ version. offers_actions s.held.unit (record
     { id = id; client = s.client; uri = uri; version = version; range = range; only = only }))
 
--- a request for formatting
+-- Returns the reaction to a request for formatting.
 abbrev pub requests_layout : ServerState → Data → List ℕ → Indent → Reaction
 requests_layout s id uri indent =
     answers_about s id (document_at s.held uri) (λ version. lays_out s.held.unit id indent)
 
--- the reaction to a request of a known method whose params have been read
+-- Returns the reaction to a request of a known method whose params have been read, or couldn't be read.
 abbrev pub answer_request : ServerState → Data → Result ClientRequest RpcFault → Reaction
 answer_request s id (Ok (initialize client)) =
     record { after = begins client; say = says (result_message id (capabilities client)) }
@@ -175,11 +175,12 @@ answer_request s id (Ok (code_action uri range only)) = requests_actions s id ur
 answer_request s id (Ok (formatting uri indent)) = requests_layout s id uri indent
 answer_request s id (Err fault) = refuses_fault s id fault
 
--- the reaction to a request while the session runs
+-- Returns the reaction to a request while the session runs.
 abbrev pub answer_method : ServerState → Data → List ℕ → Data → Reaction
 answer_method s id method params = answer_request s id (request_by_method method params)
 
--- the reaction to a request, by the phase of the lifecycle
+-- Returns the reaction to a request in this phase of the lifecycle. After the session's end or a failed allocation
+-- nothing is replied.
 abbrev pub react_to_request : Phase → ServerState → Data → List ℕ → Data → Reaction
 react_to_request Starting s id method params =
     if bytes_eq method (codes "initialize") then answer_method s id method params
@@ -193,34 +194,34 @@ react_to_request phase s id method params = stays s nothing
 
 -- ---- notifications
 
--- the status of `exit`: 0 after a shutdown, otherwise 1
+-- Returns the exit status that `exit` gives in this phase: 0 after `shutdown`, otherwise 1.
 abbrev pub end_status : Phase → ℕ
 end_status ShutDown = 0
 end_status phase = 1
 
--- the reaction to `exit`, which ends the session: with 0 after `shutdown`, otherwise with 1
+-- Returns the reaction to `exit`, which ends the session with the status for its phase.
 abbrev pub ends : ServerState → Reaction
 ends s = with_phase (Ended (end_status s.phase)) s nothing
 
--- the diagnostics of a document that is in step
+-- Returns the publication of a document's diagnostics, or nothing if the document isn't open or is out of step.
 abbrev pub published : Unit → List ℕ → Option Document → Reply
 published unit uri (Some (InStep version text)) = diagnoses unit uri version text
 published unit uri (Some OutOfStep) = nothing
 published unit uri None = nothing
 
--- the reaction that replaces the documents and publishes the diagnostics of the one with this uri
+-- Returns the reaction that replaces the documents and publishes the diagnostics of the document with this uri.
 abbrev pub publish_documents : List ℕ → OpenDocuments → ServerState → Reaction
 publish_documents uri held s =
     with_documents held s (published held.unit uri (document_at held uri))
 
--- the reaction to a notification while the session runs
+-- Returns the reaction to a notification while the session runs.
 abbrev pub apply_notification : ServerState → Notification → Reaction
 apply_notification s exits = ends s
 apply_notification s (opens uri version text) =
     publish_documents uri (opened s.held uri version text) s
 apply_notification s (changes uri version all) =
     publish_documents uri (changed s.held uri version all) s
--- the close of an open document clears its diagnostics
+-- Closing an open document clears its diagnostics.
 apply_notification s (closes uri) =
     with_documents (closed s.held uri) s
     (if is_some (document_at s.held uri) then says (publication uri None []) else nothing)
@@ -228,8 +229,8 @@ apply_notification s (unreadable (Some uri)) = with_documents (lost s.held uri) 
 apply_notification s (unreadable None) = stays s nothing
 apply_notification s other = stays s nothing
 
--- the reaction to a notification; before `initialize` and after `shutdown` every notification
--- except `exit` is dropped
+-- Returns the reaction to a notification in this phase. Before `initialize` and after `shutdown`, every notification
+-- except `exit` is dropped.
 abbrev pub react_to_notification : Phase → ServerState → List ℕ → Data → Reaction
 react_to_notification Running s method params = apply_notification s (note_of method params)
 react_to_notification phase s method params =
@@ -237,7 +238,7 @@ react_to_notification phase s method params =
 
 -- ---- messages
 
--- the reaction to a content
+-- Returns the reaction to a content with this meaning.
 abbrev pub react : ServerState → MessageMeaning → Reaction
 react s not_json = refuses_fault s null NotJson
 react s not_a_message = refuses_fault s null NotAMessage
@@ -245,26 +246,25 @@ react s response = stays s nothing
 react s (request id method params) = react_to_request s.phase s id method params
 react s (notice method params) = react_to_notification s.phase s method params
 
--- states the answers of a server that has neither ended nor failed
+-- Holds if these are the answers of a server that has neither ended nor failed, and this is its next state.
 abbrev pub AnswersGoingOn : ServerState → List ℕ → List (List ℕ) → ServerState → Type 0
 AnswersGoingOn before content sent after =
     (json : Option Data) × ReadsContent content json
     × (let r = react before (meaning json) in (after ≡ r.after) × SaysReply r.say sent)
 
--- states the answers in each phase: after its end the server sends nothing and its state is
--- unchanged; after a failed allocation it doesn't answer
+-- Holds if these are the answers of a server in this phase. After its end the server sends nothing and its state is
+-- unchanged. After a failed allocation no answer is allowed.
 abbrev pub AnswersInState : Phase → ServerState → List ℕ → List (List ℕ) → ServerState → Type 0
 AnswersInState (Ended status) before content sent after = (sent ≡ []) × (after ≡ before)
 AnswersInState Failed before content sent after = ⊥
 AnswersInState phase before content sent after = AnswersGoingOn before content sent after
 
--- States that a server in the first state replies to this content with these messages, and is then
--- in the second state.
+-- Holds if a server in the first state may reply to this content with these messages. It is then in the second state.
 abbrev pub Answers : ServerState → List ℕ → List (List ℕ) → ServerState → Type 0
 Answers before content sent after = AnswersInState before.phase before content sent after
 
--- States that the server replies to this content first and then, from the state that results, to
--- the contents after it.
+-- Holds if the server replies to this content first, and `Follows` holds for the resulting state and the remaining
+-- messages.
 pub record AnswersFirst (before : ServerState) (content : List ℕ) (sent : List (List ℕ))
     (Follows : ServerState → List (List ℕ) → Type 0) : Type 0 where
   pub between : ServerState
@@ -274,8 +274,8 @@ pub record AnswersFirst (before : ServerState) (content : List ℕ) (sent : List
   pub follows : Follows between later
   pub all : sent ≡ first ++ later
 
--- States that a server in the first state replies to these contents, one after another, with these
--- messages in this order. It is then in the second state.
+-- Holds if a server in the first state may reply to these contents, one after another, with these messages in order. It
+-- is then in the second state.
 abbrev pub Conversation : ServerState → List (List ℕ) → List (List ℕ) → ServerState → Type 0
 Conversation before [] sent after = (sent ≡ []) × (after ≡ before)
 Conversation before (content ∷ contents) sent after =

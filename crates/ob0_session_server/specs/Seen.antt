@@ -1,4 +1,4 @@
--- The meaning of values that the code passes on.
+-- Defines the meaning of the code's values that hold messages.
 -- Rule: none; for contracts: what values of the code mean.
 use Rattle.std.specs.Prelude.{◌≡◌, ℕ, ℤ, List, Option, Some, None, Vec, option_map, codes}
 use Rattle.std.specs.Option.{option_to_list}
@@ -11,28 +11,29 @@ use Rattle.ob0_session_documents.specs.declared.document_requests.RequestOutcome
 use Rattle.ob0_session_json.specs.Shapes.{edit_refused}
 use Rattle.ob0_session_server.specs.Answers.{ServerState, Reaction, Reply, SaysReply, says}
 
--- states that the sent messages are this reply
+-- Holds if the code's message, or None for no message, is this reply.
 abbrev pub SendsReply : Reply → Option (Vec ℕ Global) → Type 0
 SendsReply reply sent = SaysReply reply (option_to_list (option_map (λ v. v.items) sent))
 
--- states that a reaction allows this state and these messages
+-- Holds if the reaction leads to this state and allows this message, or None for no message.
 abbrev pub Reacts : Reaction → Option (Vec ℕ Global) → ServerState → Type 0
 Reacts r sent new = (new ≡ r.after) × SendsReply r.say sent
 
--- states the reply to a request about a document by its outcome: the outcome's message, or a
--- refusal
+-- Holds if the message is the reply for this outcome of a request about a document: the outcome's
+-- own message, or a refusal.
 abbrev pub RepliesWith : Data → RequestOutcome → Option (Vec ℕ Global) → Type 0
 RepliesWith id (Answered message) sent = sent ≡ Some message
 RepliesWith id OutOfStep sent = SendsReply (says (edit_refused id (codes "out of step"))) sent
 RepliesWith id Unopened sent = SendsReply (says (edit_refused id (codes "unopened"))) sent
 
--- the message of an outcome, if it has one
+-- Returns the message of an outcome, or None if the document is out of step or isn't open.
 abbrev pub message_of : RequestOutcome → Option (Vec ℕ Global)
 message_of (Answered message) = Some message
 message_of OutOfStep = None
 message_of Unopened = None
 
--- states that a request about a document is answered or refused, and that the state is unchanged
+-- Holds if the request about the document with this uri is answered or refused, and the state is
+-- unchanged.
 abbrev pub RepliesAbout : (ℤ → Unit → List ℕ → List ℕ → Type 0)
     → ServerState
     → Data

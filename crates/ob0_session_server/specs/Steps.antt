@@ -1,4 +1,4 @@
--- The step of a session for one content.
+-- Defines the step of a session for one content.
 -- Rule: docs/PROTOCOL.md, The program 8 (out of memory).
 use Rattle.std.specs.Prelude.{◌≡◌, ◌≢◌, ℕ, List, map}
 use Rattle.ob0_session_server.specs.Answers.{ServerState, Answers}
@@ -10,23 +10,23 @@ use Rattle.ob0_session_server.specs.declared.session.SessionFault.{SessionFault}
 use Rattle.ob0_session_server.specs.declared.session.SessionFault.TheVariants.{Memory, Failed}
 use Rattle.ob0_session_server.specs.declared.session.Step.{Step}
 
--- the session continues until it has ended
+-- Returns whether the session continues after this phase, or has ended with a status.
 abbrev pub next_after : Phase → Next
 next_after (phases.Ended status) = End status
 next_after phase = Continue
 
--- states that the session hasn't ended
+-- Holds if the session hasn't ended.
 abbrev pub IsGoingOn : Phase → Type 0
 IsGoingOn phase = next_after phase ≡ Continue
 
--- states that a step succeeds: the session replies to a content and reports whether it continues
+-- Holds if a step succeeds: the session replies to the content and reports whether it continues.
 pub record SessionSteps (before : ServerState) (content : List ℕ) (step : Step)
     (after : ServerState) : Type 0 where
   pub answers : Answers before content (map (λ v. v.items) step.send.items) after
   pub next : step.next ≡ next_after after.phase
 
--- states that a step fails: with Memory, before the end, which leaves the session failed; with
--- Failed, only after such a failure
+-- Holds if a step may fail in this way. Memory occurs only before the end, and leaves the session
+-- failed. Failed occurs only if the session has failed before, and changes nothing.
 abbrev pub SessionFails : ServerState → SessionFault → ServerState → Type 0
 SessionFails before Memory after =
     IsGoingOn before.phase × (before.phase ≢ phases.Failed) × (after.phase ≡ phases.Failed)

@@ -1,4 +1,4 @@
-//! The server (docs/PROTOCOL.md): it reads the contents of messages, and returns the contents of
+//! The server (docs/PROTOCOL.md). It takes the contents of messages, and returns the contents of
 //! its answers.
 #![tactic(auto)]
 

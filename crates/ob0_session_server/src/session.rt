@@ -1,4 +1,4 @@
-//! A session: the phase of its lifecycle, and its answers in each phase (docs/PROTOCOL.md,
+//! Keeps the state of a session, and answers messages according to its phase (docs/PROTOCOL.md,
 //! Lifecycle).
 ghost use Rattle.std.specs.Prelude.{◌≡◌, ◌≢◌, Ok, IfOk, IfErr, map, option_map, string_bytes};
 ghost use Rattle.ob0_rpc.specs.Seen.{id_data};
@@ -30,27 +30,28 @@ pub enum Phase {
     Starting,
     Running,
     ShutDown,
-    /// After `exit`; the session has ended with this status.
+    /// `exit` was received, and the session has ended with this status.
     Ended(u8),
-    /// After a failed allocation.
+    /// An allocation has failed.
     Failed,
 }
 
-/// Says whether a session continues after a step, or has ended with a status.
+/// The state after a step: the session continues, or it has ended with an exit status.
 #[derive(Clone, Copy, Debug, Drop, PartialEq, Eq)]
 pub enum Next {
     Continue,
     End(u8),
 }
 
-/// The result of a step: the messages to send, and whether the session continues.
+/// The result of a step: the contents to send, and whether the session continues.
 #[derive(Drop)]
 pub struct Step {
     pub send: Vec<Vec<u8>>,
     pub next: Next,
 }
 
-/// Why a step has no answer: an allocation failed, now or at an earlier step.
+/// The reason why a step has no answer: an allocation failed in this step (`Memory`) or in an
+/// earlier one (`Failed`).
 #[derive(Clone, Copy, Debug, Drop, PartialEq, Eq, Error)]
 pub enum SessionFault {
     #[error("Memory")]
@@ -59,7 +60,7 @@ pub enum SessionFault {
     Failed,
 }
 
-/// One conversation with an editor.
+/// A session: one conversation with an editor.
 #[derive(Drop)]
 pub struct Session<T: TextStore> {
     alloc: Global,
@@ -92,8 +93,8 @@ impl<T: TextStore> Session<T> {
     ghost use Rattle.std.specs.Str.{chars};
     ghost use Rattle.ob0_text.specs.OpenDocuments.{change_in_text, document_at};
 
-    /// Returns a session before `initialize`. No document is open, and positions are in UTF-16
-    /// units.
+    /// Returns a session before `initialize`. No document is open, and positions are counted in
+    /// UTF-16 units.
     pub fn new(alloc: Global) -> Session<T>
         ensures { result ≡ start }
     {
@@ -118,7 +119,8 @@ impl<T: TextStore> Session<T> {
         self.documents.documents()
     }
 
-    /// Reads the content of one message and returns the answers to it.
+    /// Reads the content of one message, and returns the answers to it. If an allocation fails, the
+    /// session has failed, and every later step returns `Failed`.
     pub fn step(&mut self, content: &[u8]) -> Result<Step, SessionFault>
         ensures ok { IfOk result (λ step. SessionSteps self.old content.now step self.new) }
         ensures err { IfErr result (λ fault. SessionFails self.old fault self.new) }
@@ -157,7 +159,7 @@ impl<T: TextStore> Session<T> {
         }
     }
 
-    /// Returns the messages that answer a content: at most one.
+    /// Returns the messages that answer a content: one or none.
     fn answer(&mut self, content: &[u8]) -> Result<Vec<Vec<u8>>, AllocError>
         ensures { IfOk result
             (λ sent. AnswersGoingOn self.old content.now (map (λ v. v.items) sent.items) self.new) }
@@ -194,8 +196,8 @@ impl<T: TextStore> Session<T> {
         Ok(Some(error(self.alloc, id, code, said)?))
     }
 
-    /// Answers with the reason why a message can't be read. If the reason is a failed allocation,
-    /// returns that error instead.
+    /// Answers that a message can't be read or isn't known, and why. If the reason is a failed
+    /// allocation, returns that error instead.
     fn refuse_fault(&self, id: Option<&Id>, fault: RpcFault) -> Result<Option<Vec<u8>>, AllocError>
         ensures { IfOk result (λ sent. (fault ≢ RpcFault.Memory) × Reacts
             (refuses_fault self.now (id_or_null (option_map (λ i. i.now) id.entry)) fault) sent
@@ -227,7 +229,7 @@ impl<T: TextStore> Session<T> {
         }
     }
 
-    /// Answers a request in a phase that allows it.
+    /// Answers a request that the phase allows.
     fn reply_to_known(
         &mut self,
         id: &Id,
@@ -343,7 +345,8 @@ impl<T: TextStore> Session<T> {
         self.ask(id, uri, &request)
     }
 
-    /// Returns the answer to a request about a document.
+    /// Returns the answer to a request about the document with this uri, or the refusal if that
+    /// document isn't open or is out of step.
     fn ask<Q: DocumentRequest<T>>(
         &mut self,
         id: &Id,
@@ -357,7 +360,7 @@ impl<T: TextStore> Session<T> {
         reply_with(self.alloc, id, outcome)
     }
 
-    /// Begins the session for a client with these capabilities, without any document.
+    /// Starts the session for a client with these capabilities. No document is open.
     fn begin(&mut self, client: Client)
         ensures { self.new ≡ begins client }
     {
@@ -473,7 +476,8 @@ impl<T: TextStore> Session<T> {
         Ok(Some(publication(self.alloc, uri, None, none)?))
     }
 
-    /// Returns the publication of a document's diagnostics if the document is in step.
+    /// Returns the publication of a document's diagnostics, or None if the document isn't open or
+    /// is out of step.
     fn publish(&mut self, uri: &str) -> Result<Option<Vec<u8>>, AllocError>
         ensures same { self.new ≡ self.old }
         ensures says { IfOk result (λ sent. SaysReply
@@ -485,7 +489,7 @@ impl<T: TextStore> Session<T> {
     }
 }
 
-/// Returns the answer to a request with this outcome.
+/// Returns the answer to a request with this outcome: its message or a refusal.
 fn reply_with(
     alloc: Global,
     id: &Id,
@@ -500,7 +504,7 @@ fn reply_with(
     }
 }
 
-/// Returns the message of an outcome, if it has one.
+/// Returns the message of an outcome, or None if the document is out of step or isn't open.
 fn message_of(outcome: RequestOutcome) -> Option<Vec<u8>>
     ensures { result ≡ what_is_sent outcome }
 {
@@ -511,7 +515,8 @@ fn message_of(outcome: RequestOutcome) -> Option<Vec<u8>>
     }
 }
 
-/// Returns a state without documents, in the unit of positions that the client offers.
+/// Returns documents without any open one. Positions are counted in bytes of UTF-8 if the client
+/// offers that, otherwise in UTF-16 units.
 fn documents_for<T: TextStore>(alloc: Global, client: Client) -> Documents<T>
     ensures { result ≡ none_open (unit_for client) }
 {

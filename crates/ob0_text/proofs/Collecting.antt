@@ -1,4 +1,4 @@
--- One iteration of a loop that collects the results of a function for each element.
+-- Proves one iteration of a loop that collects the results of a function for each element.
 use Rattle.std.proofs.Common.{◌≡◌, ℕ, ◌+◌, ◌<◌, List, [], ◌∷◌, ◌++◌, map, length, take, get_or, sym, ◌∙◌}
 use Rattle.std.proofs.lemmas.List.{map_more}
 

@@ -1,4 +1,4 @@
--- Cutting and joining pieces of a line.
+-- Proves that pieces of a line can be cut and joined.
 use Rattle.std.proofs.Common.{◌≡◌, ℕ, ◌+◌, ◌-◌, ◌≤◌, ◌++◌, List, [], length, take, drop, sym, ap, ◌∙◌, subst, arith, drop-drop, length-append, length-take-le, take-append-drop}
 use Rattle.std.specs.List.{All}
 use Rattle.std.specs.Str.{IsUtf8, chars}
@@ -10,7 +10,7 @@ use Rattle.std.proofs.lemmas.Str.{chars-append, chars-nil, IsUtf8-append, IsUtf8
 use Rattle.ob0_text.specs.declared.stretches.Stretch.{Stretch}
 use Rattle.ob0_text.specs.Stretches.{EndsNoLine, AreOfALine, IsPieceOfLine, IsStretch}
 
--- the bytes from one place to another
+-- Returns the bytes from the offset `from` to the offset `to`.
 abbrev pub cut : List ℕ → ℕ → ℕ → List ℕ
 cut text from to = take (to - from) (drop from text)
 
@@ -73,7 +73,8 @@ piece_cut width text start s less last is low high whole gone units =
 shorter : (n m : ℕ) (xs : List ℕ) → n ≤ m → m ≤ length xs → take n (take m xs) ≡ take n xs
 shorter n m xs less hx = sym (take-append-le n (take m xs) (drop m xs) (omega (arith, length-take-le m xs hx, less))) ∙ ap (take n) (take-append-drop m xs)
 
--- a piece that ends before an offset is still a piece if the text changes only after that offset
+-- A piece that ends at or before an offset is still a piece if the text changes only after that
+-- offset.
 pub piece_stays : (width : ℕ → ℕ) (text rest : List ℕ) (start offset : ℕ) (s : Stretch) → IsPieceOfLine width text start s → s.end ≤ offset → offset ≤ length text → IsPieceOfLine width (take offset text ++ rest) start s
 piece_stays width text rest start offset s is before inside =
     let new = take offset text ++ rest in

@@ -1,4 +1,4 @@
--- The number of a table's starts before a place, found by binary search.
+-- Proves that binary search finds the number of a table's starts before an offset.
 use Rattle.std.proofs.Common.{◌≡◌, ℕ, ◌-◌, ◌+◌, ◌<◌, ◌≤◌, Bool, true, false, List, ◌++◌, length, get_or, refl, sym, ap, ◌∙◌, subst, length-append, arith}
 use Rattle.std.specs.Prelude.{nat_lt}
 use Rattle.std.proofs.lemmas.Bool.{ltb-true, ltb-false}
@@ -14,7 +14,7 @@ module _ (xs front back : List ℕ) (n : ℕ) (is : xs ≡ front ++ back) (under
       let long : length xs ≡ length front + length back = ap length is ∙ length-append front back in
       subst (λ v. n ≤ v) (sym (ap (λ t. get_or t i 0) is ∙ get_or-append_right front back (length front) i 0 refl up)) (from (i - length front) (omega (arith, long)))
 
-  -- a start below the place is in the first part, and no other start is
+  -- A start below the offset is in the first part of the table.
   pub in_front : (i : ℕ) → i < length xs → get_or xs i 0 < n → i < length front
   in_front i inside low = by_side (nat_lt i (length front)) refl
     where
@@ -29,7 +29,7 @@ module _ (xs front back : List ℕ) (n : ℕ) (is : xs ≡ front ++ back) (under
       by_side true e = absurd (omega (arith, up, before i (ltb-true i (length front) e)))
       by_side false e = ltb-false i (length front) e
 
--- at least as many starts are before a later place as before an earlier one
+-- At least as many starts are before a later offset as before an earlier one.
 pub more_later : (xs front back front' back' : List ℕ) (n m : ℕ) → xs ≡ front ++ back → AllUnder n front → AllFrom n back → xs ≡ front' ++ back' → AllUnder m front' → AllFrom m back' → n ≤ m → length front ≤ length front'
 more_later xs front back front' back' n m is under from is' under' from' order = by_side (nat_lt (length front') (length front)) refl
   where

@@ -1,4 +1,5 @@
--- The bytes around two changes, the second of which is applied to the result of the first.
+-- Proves that one range of bytes contains two changes, the second of which is applied to the result
+-- of the first.
 use Rattle.std.proofs.Common.{◌≡◌, ℕ, ◌+◌, ◌-◌, ◌<◌, ◌≤◌, ◌^◌, ◌++◌, List, length, take, drop, refl, sym, ap, ◌∙◌, arith, append_assoc, take-append-drop, length-take-le, length-append, length-drop, drop-drop, drop_at, take_at}
 use Rattle.std.specs.Prelude.{Option, Some, None, encode_utf8_all}
 use Rattle.std.proofs.lemmas.List.{take-append-le, drop_all}
@@ -19,7 +20,8 @@ shorter_front n m xs ys less hx hy e =
 pub rests : (a b : List ℕ) (r : ReplacedBytes) → IsChangedAt a b r → byte_len a - (r.from + r.removed) ≡ byte_len b - (r.from + r.added)
 rests a b r p = sym (length-drop (r.from + r.removed) (encode_utf8_all a)) ∙ ap length p.following ∙ length-drop (r.from + r.added) (encode_utf8_all b)
 
--- `end` is a place of the middle text, after both changes
+-- If h reaches from before both changes to `end`, a place of the middle text after both of them, h
+-- contains both changes.
 pub around_both : (a b c : List ℕ) (r s h : ReplacedBytes) (end : ℕ) → IsChangedAt a b r → IsChangedAt b c s
     → h.from ≤ r.from → h.from ≤ s.from → r.from + r.added ≤ end → s.from + s.removed ≤ end → end ≤ byte_len b
     → h.from + h.removed ≡ r.from + r.removed + (end - (r.from + r.added))
@@ -48,7 +50,7 @@ around_both a b c r s h end p q before_r before_s left gone inside old_end new_e
           ∙ sym (drop-drop m (s.from + s.removed) B) ∙ ap (drop m) q.following ∙ drop-drop m (s.from + s.added) C ∙ ap (λ n. drop n C) (sym new_end);
     }
 
--- the bytes before and after a replacement are unchanged
+-- The bytes before and after a replacement are unchanged.
 pub put_there : (bytes new : List ℕ) (from to : ℕ) → from ≤ to → to ≤ length bytes
     → (take from bytes ≡ take from ((take from bytes ++ new) ++ drop to bytes)) × (drop to bytes ≡ drop (from + length new) ((take from bytes ++ new) ++ drop to bytes))
 put_there bytes new from to order inside =
@@ -58,7 +60,8 @@ put_there bytes new from to order inside =
       sym (drop_at (take from bytes ++ new) (drop to bytes) (from + length new) (omega (arith, front, length-append (take from bytes) new))),
     )
 
--- the same for texts that have these bytes
+-- If a text's bytes are the old bytes with a part replaced, the text differs from the old one only
+-- in that part.
 pub changed_there : (old new bytes put : List ℕ) (r : ReplacedBytes) (to : ℕ)
     → encode_utf8_all old ≡ bytes → encode_utf8_all new ≡ (take r.from bytes ++ put) ++ drop to bytes
     → r.from ≤ to → to ≤ length bytes → r.removed ≡ to - r.from → r.added ≡ length put
@@ -80,7 +83,7 @@ changed_there old new bytes put r to is_old is_new order inside removed added sh
           ∙ ap (λ n. drop (r.from + n) ((take r.from bytes ++ put) ++ drop to bytes)) (sym added) ∙ ap (drop (r.from + r.added)) (sym is_new);
     }
 
--- a change of a whole text
+-- Replacing all bytes of a text is a change of the text.
 pub all_changed : (old new : List ℕ) (r : ReplacedBytes) → r.from ≡ 0 → r.removed ≡ byte_len old → r.added ≡ byte_len new → byte_len old < 2 ^ 64 → byte_len new < 2 ^ 64 → IsChangedAt old new r
 all_changed old new r from removed added short_old short_new =
     record {
@@ -92,7 +95,7 @@ all_changed old new r from removed added short_old short_new =
       following = drop_all (r.from + r.removed) (encode_utf8_all old) (omega (arith, from, removed)) ∙ sym (drop_all (r.from + r.added) (encode_utf8_all new) (omega (arith, from, added)));
     }
 
--- no change so far
+-- Without any change, None covers the changes.
 pub nothing_yet : (x : Option (List ℕ)) → Covers x x None
 nothing_yet None = refl
 nothing_yet (Some text) = refl

@@ -1,4 +1,4 @@
--- A pass may begin at the start of any line.
+-- Proves that a pass may begin at the start of any line.
 use Rattle.std.proofs.Common.{◌≡◌, ℕ, zero, suc, ◌+◌, ◌-◌, ◌<◌, ◌≤◌, min, length-append, Bool, true, false, List, [], ◌∷◌, ◌++◌, length, get_or, take, drop, map, refl, sym, ap, ◌∙◌, subst, arith}
 use Rattle.std.specs.Prelude.{encode_utf8_all, ◌==◌}
 use Rattle.std.proofs.lemmas.Bool.{eqb-true}
@@ -19,7 +19,8 @@ use Rattle.ob0_text.proofs.PlaceSteps.{sought_at_start, sought_dropped, sought_p
 use Rattle.ob0_text.proofs.StartLaws.{following_ends, ends-here, ends-on, starts-lines, table, table-split, table-mended, start_before}
 use Rattle.ob0_text.proofs.Halving.{before}
 
--- a property of each of some starts, the first of which is the start of the line `line`
+-- Holds if P holds for each of the starts and its line, if the first of them is the start of the
+-- line `line`.
 abbrev AtEach : (ℕ → ℕ → Type 0) → ℕ → List ℕ → Type 0
 AtEach P line starts = (k : ℕ) → k < length starts → P (get_or starts k 0) (line + k)
 
@@ -55,7 +56,7 @@ module _ (width : ℕ → ℕ) (narrow : (c : ℕ) → width c ≤ len_utf8 c) (
           let there = counted_past_char width text _ offset line character h c (encode_utf8_all cs) refl (narrow c) (test ∙ e) (grind (arith, nat_tests)) in
           subst (AtEach StartsLine (line + 1)) (sym (ends-on offset c cs e)) (later line (character + width c) there)
 
-  -- positions can be counted from each start of a line
+  -- Positions can be counted from the start of each line.
   pub line_counted : IsUtf8 text → (k : ℕ) → k < length (line_starts (chars text)) → StartsLine (get_or (line_starts (chars text)) k 0) k
   line_counted u k l =
       let start = counted_at_start width text u in
@@ -64,7 +65,8 @@ module _ (width : ℕ → ℕ) (narrow : (c : ℕ) → width c ≤ len_utf8 c) (
       subst (StartsLine (get_or (line_starts (chars text)) k 0)) (omega arith) (all k l)
 
 module _ (width : ℕ → ℕ) (text : List ℕ) (p : Position) where
-  -- the same for the characters before a position, for the lines up to the position's line
+  -- Holds if the position p can be found from the start s of the line `line`, in case that line
+  -- isn't after p.
   abbrev pub SeeksFrom : ℕ → ℕ → Type 0
   SeeksFrom s line = line ≤ p.line → IsSought width text p (drop s text) s line 0
 
@@ -96,11 +98,12 @@ module _ (width : ℕ → ℕ) (text : List ℕ) (p : Position) where
       let all : AtEach SeeksFrom 0 (line_starts (chars text)) = subst (AtEach SeeksFrom 0) (sym (starts-lines 0 (chars text))) (at_next SeeksFrom 0 0 (following_ends 0 (chars text)) (λ low. start) more) in
       subst (SeeksFrom (get_or (line_starts (chars text)) k 0)) (omega arith) (all k l)
 
--- a text has at least one line
+-- A text has at least one line start.
 pub some_start : (text : List ℕ) → 0 < length (line_starts text)
 some_start text = omega (arith, ap length (starts-lines 0 text))
 
--- the places at which the passes of a look-up begin
+-- The place at which the search for a position begins is a place from which the position can be
+-- found.
 pub seeks : (width : ℕ → ℕ) (text starts : List ℕ) (p : Position) (place : PassState) → IsUtf8 text → starts ≡ line_starts (chars text) → place.offset ≡ get_or starts place.line 0 → place.line ≡ min p.line (length starts - 1) → place.character ≡ 0 → IsPlaceBefore width text p place
 seeks width text starts p place u is here line none =
     let some : 0 < length starts = subst (λ t. 0 < length t) (sym is) (some_start (chars text)) in
@@ -117,7 +120,8 @@ counts width narrow text starts l place u is here line none =
     subst (λ n. IsCounted width text (drop place.offset text) place.offset place.line n) (sym none)
     (subst (λ o. IsCounted width text (drop o text) o place.line 0) (sym start) (line_counted width narrow text u place.line inside))
 
--- the last start at or before an offset
+-- If `count` line starts are at or before the offset m, then `count` is at least 1. The last of
+-- these starts is at or before m.
 pub searched : (text starts : List ℕ) (m n count : ℕ) → IsUtf8 text → starts ≡ line_starts (chars text) → m ≤ length text → n ≡ suc m → ((front back : List ℕ) → starts ≡ front ++ back → AllUnder n front → AllFrom n back → count ≡ length front) → (1 ≤ count) × (count ≤ length starts) × (get_or starts (count - 1) 0 ≤ m)
 searched text starts m n count u is within next count_is =
     let split = table-split (LF ∷ text) (suc m) (omega arith) in
@@ -130,7 +134,7 @@ searched text starts m n count u is within next count_is =
     let low : get_or starts (count - 1) 0 < suc m = before starts front back (suc m) whole split.under split.from (count - 1) (omega (arith, here, some)) in
     (omega (arith, here, some), omega (arith, here, long), omega (arith, low))
 
--- the starts after a place
+-- The starts of the table after `to` are the starts found in the bytes after `to`.
 pub moved_starts : (bs starts : List ℕ) (to moved : ℕ) → IsUtf8 bs → starts ≡ line_starts (chars bs) → to ≤ length bs → ((front back : List ℕ) → starts ≡ front ++ back → AllUnder (to + 1) front → AllFrom (to + 1) back → moved ≡ length front) → drop moved starts ≡ starts_after (suc to) (drop to bs) []
 moved_starts bs starts to moved u is within moved_is =
     let old : starts ≡ starts_after 0 (LF ∷ bs) [] = is ∙ table bs u in
@@ -140,7 +144,8 @@ moved_starts bs starts to moved u is within moved_is =
     let moved_here : moved ≡ length far_front = moved_is far_front _ (old ∙ far.whole) (subst (λ k. AllUnder k far_front) next far.under) (subst (λ k. AllFrom k (starts_after (suc to) (drop to bs) [])) next far.from) in
     (λ i. drop (moved_here i) ((old ∙ far.whole) i)) ∙ drop-append_seam far_front _
 
--- the table of a text after a part of it was replaced
+-- The table of a text with a replaced part consists of the starts before the part, the starts in
+-- the new bytes, and the later starts, moved.
 pub mended_starts : (bs new starts later : List ℕ) (from to kept moved : ℕ) → IsUtf8 bs → starts ≡ line_starts (chars bs) → from ≤ to → to ≤ length bs → ((front back : List ℕ) → starts ≡ front ++ back → AllUnder from front → AllFrom from back → kept ≡ length front) → ((front back : List ℕ) → starts ≡ front ++ back → AllUnder (to + 1) front → AllFrom (to + 1) back → moved ≡ length front) → later ≡ starts_after from (get_or (LF ∷ bs) from 0 ∷ new) (drop to bs) ++ map (λ s. s - to + (from + length new)) (drop moved starts) → IsUtf8 ((take from bs ++ new) ++ drop to bs) → take kept starts ++ later ≡ line_starts (chars ((take from bs ++ new) ++ drop to bs))
 mended_starts bs new starts later from to kept moved u is order within kept_is moved_is later_is v =
     let old : starts ≡ starts_after 0 (LF ∷ bs) [] = is ∙ table bs u in

@@ -1,4 +1,4 @@
--- A table of starts whose later part is counted from the text's end.
+-- Proves laws about a table of starts whose later part is counted from the text's end.
 use Rattle.std.proofs.Common.{◌≡◌, ℕ, suc, ◌+◌, ◌-◌, ◌<◌, ◌≤◌, List, [], ◌∷◌, ◌++◌, length, take, drop, map, reverse, get_or, refl, sym, ap, ◌∙◌, subst, arith, append_assoc, length-append, length-drop}
 use Rattle.std.proofs.Math.Seq.{drop-append_seam, get_or-append_seam, take-append_seam}
 use Rattle.std.specs.Str.{IsUtf8, chars}
@@ -9,11 +9,11 @@ use Rattle.ob0_text.proofs.StartLaws.{following-from, following-under, table, ta
 use Rattle.ob0_text.proofs.LinePlaces.{mended_starts, moved_starts}
 use Rattle.ob0_text.proofs.Halving.{more_later}
 
--- the start that has this distance from the end
+-- Returns the offset that has the distance d from the end of a text of length `len`.
 abbrev pub from_end : ℕ → ℕ → ℕ
 from_end len d = len - d
 
--- the number of starts
+-- The number of starts is the sum of the lengths of both parts.
 pub length-starts_in : (len : ℕ) (front back : List ℕ) → length (starts_in len front back) ≡ length front + length back
 length-starts_in len front back =
     length-append front (map (from_end len) (reverse back)) ∙ ap (λ n. length front + n) (length-map (reverse back) (from_end len) ∙ length-reverse back)
@@ -21,7 +21,7 @@ length-starts_in len front back =
 flipped : (x : ℕ) (xs : List ℕ) → reverse (xs ++ (x ∷ [])) ≡ x ∷ reverse xs
 flipped x xs = reverse-append xs (x ∷ [])
 
--- moving a start from the front to the back changes no start
+-- Moving a start from the front to the back changes no start.
 pub moved_left : (len : ℕ) (front back : List ℕ) (s d : ℕ) → d ≡ len - s → s ≤ len → starts_in len front (back ++ (d ∷ [])) ≡ starts_in len (front ++ (s ∷ [])) back
 moved_left len front back s d is within =
     let again : len - d ≡ s = omega (arith, is, within) in
@@ -29,13 +29,13 @@ moved_left len front back s d is within =
     ∙ (ap (λ x. front ++ (x ∷ map (from_end len) (reverse back))) again
     ∙ sym (append_assoc front (s ∷ []) (map (from_end len) (reverse back))))
 
--- moving a start from the back to the front changes no start
+-- Moving a start from the back to the front changes no start.
 pub moved_right : (len : ℕ) (front back : List ℕ) (d : ℕ) → starts_in len (front ++ ((len - d) ∷ [])) back ≡ starts_in len front (back ++ (d ∷ []))
 moved_right len front back d =
     append_assoc front ((len - d) ∷ []) (map (from_end len) (reverse back))
     ∙ ap (λ xs. front ++ map (from_end len) xs) (sym (flipped d back))
 
--- the last start of the front is within the text
+-- The last start of the front is below the bound that all starts are below.
 pub last_within : (len bound : ℕ) (starts front back : List ℕ) (s : ℕ) → AllUnder bound starts → starts_in len (front ++ (s ∷ [])) back ≡ starts → s < bound
 last_within len bound starts front back s under is =
     let whole : starts ≡ front ++ (s ∷ map (from_end len) (reverse back)) = sym is ∙ append_assoc front (s ∷ []) (map (from_end len) (reverse back)) in
@@ -43,12 +43,12 @@ last_within len bound starts front back s under is =
     let here : get_or starts (length front) 0 ≡ s = ap (λ xs. get_or xs (length front) 0) whole ∙ get_or-append_seam front s (map (from_end len) (reverse back)) 0 in
     subst (λ n. n < bound) here (under (length front) (omega (arith, long)))
 
--- no start of a text is after its end
+-- No start of a text is after its end.
 pub all_within : (bs : List ℕ) → IsUtf8 bs → AllUnder (length bs + 1) (line_starts (chars bs))
 all_within bs u =
     subst (AllUnder (length bs + 1)) (sym (table bs u)) (following-under 0 (length bs + 1) (LF ∷ bs) [] (omega arith))
 
--- the rest of the back part after its first starts were dropped
+-- Dropping the first starts of the back part is taking a prefix of its stored list.
 dropped_back : (back : List ℕ) (gone : ℕ) → gone ≤ length back → drop gone (reverse back) ≡ reverse (take (length back - gone) back)
 dropped_back back gone few =
     let kept : List ℕ = take (length back - gone) back in
@@ -57,7 +57,7 @@ dropped_back back gone few =
     let parts : reverse back ≡ reverse lost ++ reverse kept = ap reverse (sym (take-append-drop (length back - gone) back)) ∙ reverse-append kept lost in
     (λ i. drop (sym many i) (parts i)) ∙ drop-append_seam (reverse lost) (reverse kept)
 
--- if starts move together with the text's end, their distances from it don't change
+-- If starts move together with the text's end, their distances from it don't change.
 with_the_end : (len after to by : ℕ) (ds : List ℕ) → after ≡ (len - to) + by → AllFrom (suc to) (map (from_end len) ds) → map (from_end after) ds ≡ map (λ s. s - to + by) (map (from_end len) ds)
 with_the_end len after to by [] is up = refl
 with_the_end len after to by (d ∷ ds) is up =
@@ -81,11 +81,11 @@ module _ (bs new starts front back added : List ℕ) (len from to kept moved : �
       let fewer : length near_front ≤ length far_front = more_later starts near_front _ far_front _ from (suc to) (old ∙ near.whole) near.under near.from (old ∙ far.whole) far.under far.from (omega (arith, order)) in
       omega (arith, kept_here, moved_here, fewer)
 
-  -- the starts that the back part keeps
+  -- Returns the distances that the back part keeps.
   abbrev pub rest : List ℕ
   rest = take (length back - (moved - kept)) back
 
-  -- the starts after the change, if there are that many
+  -- If the table has `moved` starts, the starts after them are the ones that the back part keeps.
   later_starts : moved ≤ length starts → drop moved starts ≡ map (from_end len) (reverse rest)
   later_starts few =
       let both : length starts ≡ length front + length back = ap length (sym parts) ∙ length-starts_in len front back in

@@ -1,4 +1,4 @@
--- The text of one line, found with the table.
+-- Proves that the table gives the text of one line.
 use Rattle.std.proofs.Common.{◌≡◌, ℕ, zero, suc, ◌+◌, ◌<◌, ◌≤◌, Bool, true, false, List, [], ◌∷◌, ◌++◌, length, get_or, refl, sym, ap, ◌∙◌, subst, append_assoc, length-append, arith, Some, None}
 use Rattle.std.specs.Prelude.{encode_utf8_all, nat_lt, slice_get}
 use Rattle.std.proofs.lemmas.Bool.{ltb-true, ltb-false}
@@ -12,7 +12,7 @@ use Rattle.ob0_text.proofs.PositionSteps.{rest_border}
 use Rattle.ob0_text.proofs.StartLaws.{byte_len-append}
 use Rattle.ob0_text.proofs.LinePlaces.{line_counted}
 
--- states that the bytes of line k lie between two offsets
+-- Holds if the bytes of line k, with its ending, are between the offsets `start` and `end`.
 pub record IsFound (bytes : List ℕ) (ls : List Line) (at k start end : ℕ) : Type 0 where
   pub line : Line
   pub is_line : slice_get ls k ≡ Some line

@@ -1,4 +1,4 @@
--- Replacing a range of a text.
+-- Proves that replacing bytes is replacing a range of the text.
 use Rattle.std.proofs.Common.{◌≡◌, ℕ, List, ◌++◌, take, drop, min, max, sym, ap, ◌∙◌, subst, Some, Ok, Err}
 use Rattle.std.specs.Prelude.{Result, OnOk}
 use Rattle.std.specs.Str.{IsUtf8, IsCharBoundary, chars}

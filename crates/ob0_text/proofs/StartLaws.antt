@@ -1,4 +1,4 @@
--- The byte offsets where lines start, found byte by byte.
+-- Proves that the byte offsets at which lines start can be found byte by byte.
 use Rattle.std.proofs.Common.{◌≡◌, ℕ, zero, suc, ◌+◌, ◌-◌, ◌<◌, ◌≤◌, Bool, true, false, not, ◌&&◌, ◌||◌, List, [], ◌∷◌, ◌++◌, length, get_or, take, drop, map, refl, sym, ap, ◌∙◌, subst, append_assoc, length-append, arith, eqb, add-one, drop-cons}
 use Rattle.std.specs.Prelude.{encode_utf8, encode_utf8_all, ◌==◌, nat_lt, if◌then◌else◌, option_to_list, slice_get}
 use Rattle.std.proofs.lemmas.Bool.{ltb-true, ltb-false}
@@ -18,7 +18,7 @@ pub append_nil : (xs : List ℕ) → xs ++ [] ≡ xs
 append_nil [] = refl
 append_nil (x ∷ xs) = ap (λ t. x ∷ t) (append_nil xs)
 
--- the equations of `starts_after`
+-- If the first byte ends a line, the offset after it is a start.
 pub following-starts : (at b : ℕ) (bs next : List ℕ) → ends_line b (bs ++ next) ≡ true → starts_after at (b ∷ bs) next ≡ at ∷ starts_after (suc at) bs next
 unfolding starts_after
 following-starts at b bs next e = rw e refl
@@ -27,7 +27,7 @@ pub following-none : (at b : ℕ) (bs next : List ℕ) → ends_line b (bs ++ ne
 unfolding starts_after
 following-none at b bs next e = rw e refl
 
--- a run of bytes in two parts
+-- The starts in a run of bytes are the starts in its first part and the starts in its second part.
 pub following-append : (at : ℕ) (xs ys next : List ℕ) → starts_after at (xs ++ ys) next ≡ starts_after at xs (ys ++ next) ++ starts_after (at + length xs) ys next
 unfolding starts_after
 following-append at [] ys next = ap (λ k. starts_after k ys next) (omega arith)
@@ -47,7 +47,8 @@ following-append at (x ∷ xs) ys next = by_end (following-append (suc at) xs ys
         following-none at x (xs ++ ys) next (same ∙ e) ∙ more ∙ ap (λ k. starts_after (suc at) xs (ys ++ next) ++ starts_after k ys next) there
         ∙ sym (ap (λ t. t ++ starts_after (at + length (x ∷ xs)) ys next) (following-none at x xs (ys ++ next) e))
 
--- of the bytes after a run, only the first one matters
+-- If two texts after a run both begin with an LF or both don't, a byte of the run ends a line
+-- before both or before neither.
 same_end : (x : ℕ) (xs next other : List ℕ) → starts_with_lf next ≡ starts_with_lf other → ends_line x (xs ++ next) ≡ ends_line x (xs ++ other)
 unfolding ends_line starts_with_lf
 same_end x [] next other h = ap (λ b. x == LF || (x == CR && not b)) h
@@ -59,7 +60,7 @@ following-next at [] next other h = refl
 following-next at (x ∷ xs) next other h =
     (λ i. if same_end x xs next other h i then at ∷ following-next (suc at) xs next other h i else following-next (suc at) xs next other h i)
 
--- a run of bytes at another offset
+-- If a run of bytes moves to another offset, its starts move with it.
 pub following-moved : (at there to by : ℕ) (xs next : List ℕ) → to ≤ at → at - to + by ≡ there → map (λ s. s - to + by) (starts_after at xs next) ≡ starts_after there xs next
 unfolding starts_after
 following-moved at there to by [] next up e = refl
@@ -69,7 +70,7 @@ following-moved at there to by (x ∷ xs) next up e =
       | false ↦ following-moved (suc at) (suc there) to by xs next (omega arith) (omega (arith, e))
     ]
 
--- the starts are within the run's offsets
+-- A list whose numbers are at least `suc at`, with `at` in front, has numbers of at least `at`.
 from_next : (at : ℕ) (ns : List ℕ) → AllFrom (suc at) ns → AllFrom at (at ∷ ns)
 from_next at ns more zero h = omega arith
 from_next at ns more (suc k) h = let here : suc at ≤ get_or ns k 0 = more k (omega arith) in omega (arith, here)
@@ -96,7 +97,7 @@ following-under at bound (x ∷ xs) next e =
       | false ↦ following-under (suc at) bound xs next (omega (arith, e))
     ]
 
--- bytes that end no line
+-- Bytes of at least 128 end no line, so the starts are the starts in the bytes after them.
 skipped : (at : ℕ) (hs bs next : List ℕ) → ((k : ℕ) → k < length hs → 128 ≤ get_or hs k 0) → starts_after at (hs ++ bs) next ≡ starts_after (at + length hs) bs next
 skipped at [] bs next high = ap (λ k. starts_after k bs next) (omega arith)
 skipped at (h ∷ hs) bs next high =
@@ -117,7 +118,7 @@ ends_line-encoded c cs =
     let same : starts_with_lf (encode_utf8_all cs ++ []) ≡ starts_with_lf cs = ap starts_with_lf (append_nil (encode_utf8_all cs)) ∙ lf_first (encode_utf8_all cs) ∙ sym (lf_byte cs (encode_utf8_all cs) refl) in
     ap (λ b. c == LF || (c == CR && not b)) same
 
--- the offsets after each line ending of a text, character by character
+-- Returns the byte offsets after each line ending of a text, found character by character.
 unfoldable pub following_ends : ℕ → List ℕ → List ℕ
 following_ends at [] = []
 following_ends at (c ∷ cs) =
@@ -131,7 +132,7 @@ pub ends-on : (at c : ℕ) (cs : List ℕ) → ends_line c cs ≡ false → foll
 unfolding following_ends
 ends-on at c cs e = rw e refl
 
--- the same for the bytes
+-- Each byte of a character of at least 128 is at least 128.
 high_bytes : (c k : ℕ) → 128 ≤ c → k < length (encode_utf8 c) → 128 ≤ get_or (encode_utf8 c) k 0
 high_bytes c k up l = by_low (nat_lt (get_or (encode_utf8 c) k 0) 128) refl
   where
@@ -178,7 +179,7 @@ ends-bytes at (c ∷ cs) = by_low (ends-bytes (at + len_utf8 c) cs) (nat_lt c 12
     by_low more true e = one_byte at c cs (ltb-true c 128 e) more
     by_low more false e = more_bytes at c cs (ltb-false c 128 e) more
 
--- the lines start at these offsets
+-- The byte length of two texts together is the sum of their byte lengths.
 pub byte_len-append : (xs ys : List ℕ) → byte_len (xs ++ ys) ≡ byte_len xs + byte_len ys
 byte_len-append xs ys = ap length (encodes-append xs ys) ∙ length-append (encode_utf8_all xs) (encode_utf8_all ys)
 
@@ -213,13 +214,13 @@ starts-lines at (c ∷ cs) = by_end (starts-lines (at + len_utf8 c) cs) (ends_li
         ∙ longer_first at c cs l.0 (record { body = c ∷ l.0.body; ending = l.0.ending }) l.1 l.2 (byte_len-cons c (l.0.body ++ l.0.ending)) more
         ∙ ap (λ t. at ∷ t) (sym (ends-on at c cs e))
 
--- the table, found in a text's bytes as if an LF preceded them
+-- The line starts of a text are the starts found in its bytes with an LF in front.
 pub table : (bs : List ℕ) → IsUtf8 bs → line_starts (chars bs) ≡ starts_after 0 (LF ∷ bs) []
 table bs u =
     starts-lines 0 (chars bs) ∙ ap (λ t. 0 ∷ t) (sym (ends-bytes 0 (chars bs)) ∙ ap (λ b. starts_after 1 b []) (encodes-chars bs u))
     ∙ sym (following-starts 0 LF bs [] (lf_ends LF (bs ++ []) refl))
 
--- states that starts are split into those before a place and the others
+-- Holds if the starts are split into those below m and the others.
 pub record IsSplit (starts : List ℕ) (m : ℕ) (front back : List ℕ) : Type 0 where
   pub whole : starts ≡ front ++ back
   pub under : AllUnder m front
@@ -235,11 +236,12 @@ table-split xs m within =
       from = following-from m (drop m xs) [];
     }
 
--- the first line of a text starts before each place except 0
+-- At least one line starts before each place except 0.
 pub start_before : (bs next : List ℕ) (m : ℕ) → 0 < length (starts_after 0 (take (suc m) (LF ∷ bs)) next)
 start_before bs next m = subst (λ t. 0 < length t) (sym (following-starts 0 LF (take m bs) next (lf_ends LF (take m bs ++ next) refl))) (omega arith)
 
--- a text in which some bytes were replaced
+-- The starts of a text with replaced bytes can be found in three parts: before, in and after the
+-- replaced bytes.
 module _ (bs new : List ℕ) (from to : ℕ) (inside : from < length (LF ∷ bs)) where
   mended_bytes : starts_after 0 (LF ∷ ((take from bs ++ new) ++ drop to bs)) [] ≡ starts_after 0 (take from (LF ∷ bs) ++ ((get_or (LF ∷ bs) from 0 ∷ new) ++ drop to bs)) []
   mended_bytes =
@@ -260,7 +262,8 @@ module _ (bs new : List ℕ) (from to : ℕ) (inside : from < length (LF ∷ bs)
       ∙ following-append from (get_or (LF ∷ bs) from 0 ∷ new) (drop to bs) []
       ∙ (λ i. starts_after from (get_or (LF ∷ bs) from 0 ∷ new) (append_nil (drop to bs) i) ++ sym (following-moved (suc to) (from + suc (length new)) to (from + length new) (drop to bs) [] (omega arith) there) i)
 
--- the table of a text in which some bytes were replaced
+-- The starts of a text with replaced bytes are the starts before them, the starts in the new bytes,
+-- and the starts after them.
 pub table-mended : (bs new : List ℕ) (from to : ℕ) → from ≤ length bs → starts_after 0 (LF ∷ ((take from bs ++ new) ++ drop to bs)) [] ≡ starts_after 0 (take from (LF ∷ bs)) (drop from (LF ∷ bs)) ++ (starts_after from (get_or (LF ∷ bs) from 0 ∷ new) (drop to bs) ++ map (λ s. s - to + (from + length new)) (starts_after (suc to) (drop to bs) []))
 table-mended bs new from to within =
     let inside : from < length (LF ∷ bs) = omega arith in
@@ -268,7 +271,7 @@ table-mended bs new from to within =
     ∙ following-append 0 (take from (LF ∷ bs)) ((get_or (LF ∷ bs) from 0 ∷ new) ++ drop to bs) []
     ∙ (λ i. mended_front bs new from to inside i ++ mended_back bs new from to inside i)
 
--- the steps of the loop that looks for starts
+-- For the loop that looks for starts, the next byte is enough to decide whether a line ends.
 module _ (found bytes next : List ℕ) (at last i : ℕ) (h : i < length bytes) where
   same_test : ends_line last (get_or bytes i 0 ∷ []) ≡ ends_line last (drop i bytes ++ next)
   unfolding ends_line starts_with_lf
@@ -285,7 +288,7 @@ module _ (found bytes next : List ℕ) (at last i : ℕ) (h : i < length bytes) 
       ap (λ t. found ++ t) (ap (λ k. starts_after k (get_or bytes i 0 ∷ drop (i + 1) bytes) next) (add-one at) ∙ ap (λ t. starts_after (suc at) t next) (sym (drop_more bytes i 0 h))
       ∙ sym (following-none at last (drop i bytes) next (sym same_test ∙ e)))
 
--- the end of that loop
+-- At the end of the bytes, the first following byte is enough to decide whether a line ends.
 pub last_test : (last : ℕ) (next : List ℕ) → ends_line last (option_to_list (slice_get next 0)) ≡ ends_line last next
 unfolding ends_line starts_with_lf
 last_test last [] = refl

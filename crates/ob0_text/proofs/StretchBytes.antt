@@ -1,4 +1,4 @@
--- Conclusions from the bytes of characters about line endings and units.
+-- Proves facts about the line endings and units of characters from their bytes.
 use Rattle.std.proofs.Common.{◌≡◌, ℕ, ◌+◌, ◌<◌, Bool, true, false, ◌||◌, List, [], ◌∷◌, ◌++◌, length, refl, sym, ap, ◌∙◌, subst, arith, length-append}
 use Rattle.std.specs.Prelude.{◌==◌, encode_utf8_all, sum_by}
 use Rattle.std.specs.List.{All}
@@ -12,8 +12,7 @@ use Rattle.std.proofs.lemmas.Str.{encode_ascii, encodes-chars, length-encode}
 use Rattle.ob0_text.specs.Texts.{LF, CR, utf16_width, byte_len}
 use Rattle.ob0_text.specs.Stretches.{EndsNoLine, utf16_units_at, AreOfALine}
 
--- a character of four bytes begins with a byte of at least 240, and its other bytes are from 128 to
--- 191
+-- The units counted at the bytes of a character are its UTF-16 units.
 units_of_char : (c : ℕ) → sum_by utf16_units_at (encode_utf8 c) ≡ utf16_width c
 unfolding encode_utf8
 units_of_char c = grind (arith, nat_tests)
@@ -28,7 +27,7 @@ bytes_of_chars [] = refl
 bytes_of_chars (c ∷ cs) =
     length-append (encode_utf8 c) (encode_utf8_all cs) ∙ (λ i. length-encode c i + bytes_of_chars cs i) ∙ sym (sum_by-cons len_utf8 c cs)
 
--- if no byte of a character ends a line, the character doesn't end one either
+-- If no byte of a character ends a line, the character doesn't end one either.
 char_of_line : (c : ℕ) (bs : List ℕ) → All EndsNoLine (encode_utf8 c ++ bs) → EndsNoLine c
 char_of_line c bs h = by_end (c == LF || c == CR) refl
   where

@@ -1,4 +1,4 @@
--- The steps of passes over the characters of a stretch.
+-- Proves the steps of passes over the characters of a stretch.
 use Rattle.std.proofs.Common.{◌≡◌, ℕ, ◌+◌, ◌-◌, ◌≤◌, List, [], ◌∷◌, ◌++◌, length, take, drop, sym, ap, ◌∙◌, subst, append_assoc, arith, length-drop}
 use Rattle.std.specs.Prelude.{encode_utf8, encode_utf8_all, sum_by}
 use Rattle.std.specs.List.{All}
@@ -23,7 +23,7 @@ no_cr : (c : ℕ) → EndsNoLine c → c ≡ CR → ⊥
 no_cr c h e = grind (arith, nat_tests)
 
 module _ (width : ℕ → ℕ) (text : List ℕ) where
-  -- the text, split at a stretch's end
+  -- Lemmas on a text that is split at a stretch's end.
   module _ (from : ℕ) (s : Stretch) (is : IsPieceOfLine width text from s) where
     piece : List ℕ
     piece = take (s.end - from) (drop from text)
@@ -44,7 +44,7 @@ module _ (width : ℕ → ℕ) (text : List ℕ) where
     unfolding piece
     bytes = ap length (encodes-chars piece is.whole) ∙ long
 
-  -- the search for a position
+  -- Lemmas on the search for a position.
   module _ (p : Position) where
     sought_past : (cs rest : List ℕ) (offset line character : ℕ) → All EndsNoLine cs → IsSought width text p (encode_utf8_all cs ++ rest) offset line character → line ≡ p.line → character + sum_by width cs ≤ p.character → IsSought width text p rest (offset + byte_len cs) line (character + sum_by width cs)
     sought_past [] rest offset line character of_one h here room =
@@ -63,7 +63,7 @@ module _ (width : ℕ → ℕ) (text : List ℕ) where
         subst (λ n. IsSought width text p (drop s.end text) n place.line (place.character + s.units)) (omega (arith, bytes place.offset s is, is.ordered))
         (subst (λ n. IsSought width text p (drop s.end text) (place.offset + byte_len (chars (piece place.offset s is))) place.line (place.character + n)) is.of_a_line.counted passed)
 
-  -- the pass that counts
+  -- Lemmas on the pass that counts.
   module _ (narrow : (c : ℕ) → width c ≤ len_utf8 c) where
     counted_past : (cs rest : List ℕ) (offset line character : ℕ) → All EndsNoLine cs → IsCounted width text (encode_utf8_all cs ++ rest) offset line character → IsCounted width text rest (offset + byte_len cs) line (character + sum_by width cs)
     counted_past [] rest offset line character of_one h =
@@ -83,7 +83,7 @@ module _ (width : ℕ → ℕ) (text : List ℕ) where
         subst (λ n. IsCounted width text (drop s.end text) n place.line (place.character + s.units)) (omega (arith, bytes place.offset s is, is.ordered))
         (subst (λ n. IsCounted width text (drop s.end text) (place.offset + byte_len (chars (piece place.offset s is))) place.line (place.character + n)) is.of_a_line.counted passed)
 
--- a stretch has at most as many units as bytes
+-- A text has at most as many units as bytes.
 module _ (width : ℕ → ℕ) (narrow : (c : ℕ) → width c ≤ len_utf8 c) where
   few_units : (cs : List ℕ) → sum_by width cs ≤ byte_len cs
   few_units [] = omega arith

@@ -1,4 +1,4 @@
--- The number of units that a character has, in each unit.
+-- Proves bounds on the number of units of a character.
 use Rattle.std.proofs.Common.{ℕ, ◌<◌, ◌≤◌, arith}
 use Rattle.std.specs.Char.{len_utf8}
 use Rattle.std.proofs.lemmas.Bool.Decides.{nat_tests}
@@ -14,7 +14,7 @@ narrow_utf16 c = grind (arith, nat_tests)
 wide_utf16 : (c : ℕ) → 0 < utf16_width c
 wide_utf16 c = grind (arith, nat_tests)
 
--- at least 1, and at most the number of its bytes
+-- A character has at most as many units as bytes.
 pub narrow : (u : Unit) (c : ℕ) → width_of u c ≤ len_utf8 c
 narrow Utf16 c = narrow_utf16 c
 narrow Utf8 c = omega arith

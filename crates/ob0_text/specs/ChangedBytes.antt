@@ -1,4 +1,4 @@
--- The bytes of a text that changes have replaced.
+-- Defines which bytes of a text were replaced by changes.
 -- Rule: docs/PROTOCOL.md, Documents (changes, in bytes).
 use Rattle.std.specs.Prelude.{◌≡◌, ℕ, ◌+◌, ◌<◌, ◌≤◌, ◌^◌, List, Option, Some, None, take, drop, encode_utf8_all}
 use Rattle.std.specs.Option.{option_and_then}
@@ -6,8 +6,8 @@ use Rattle.ob0_text.specs.declared.replaced_bytes.ReplacedBytes.{ReplacedBytes}
 use Rattle.ob0_text.specs.Texts.{byte_len}
 use Rattle.ob0_text.specs.OpenDocuments.{OpenDocuments, document_at, text_of}
 
--- States that the new text differs from the old one only in these bytes: before and after them the
--- two are equal. Both texts fit into memory.
+-- Holds if the new text differs from the old one only in these bytes: before and after them the two
+-- are equal. Both texts have fewer than 2^64 bytes.
 pub record IsChangedAt (old new : List ℕ) (r : ReplacedBytes) : Type 0 where
   pub inside_old : r.from + r.removed ≤ byte_len old
   pub inside_new : r.from + r.added ≤ byte_len new
@@ -17,14 +17,15 @@ pub record IsChangedAt (old new : List ℕ) (r : ReplacedBytes) : Type 0 where
   pub following : drop (r.from + r.removed) (encode_utf8_all old)
       ≡ drop (r.from + r.added) (encode_utf8_all new)
 
--- States that these bytes contain all changes of a text. None means that the text wasn't known or
--- is unchanged.
+-- Holds if these bytes contain all changes of a text. None means that the old text wasn't known, or
+-- that the text is unchanged.
 abbrev pub Covers : Option (List ℕ) → Option (List ℕ) → Option ReplacedBytes → Type 0
 Covers None new hull = hull ≡ None
 Covers (Some old) new None = new ≡ Some old
 Covers (Some old) new (Some r) =
     (text : List ℕ) × (new ≡ Some text) × IsChangedAt old text r
 
--- the text of an open document, if it is known
+-- Returns the text of the document with this uri, or None if the document isn't open or is out of
+-- step.
 abbrev pub text_at : OpenDocuments → List ℕ → Option (List ℕ)
 text_at m uri = option_and_then text_of (document_at m uri)

@@ -1,4 +1,4 @@
--- The data that the store of lines keeps in addition to a text.
+-- Defines which data the store `Lines` keeps in addition to its text.
 -- Rule: none; for the invariant of `Lines`.
 use Rattle.std.specs.Prelude.{ℕ, List}
 use Rattle.ob0_text.specs.declared.counted_pieces.CountedPiece.{CountedPiece}
@@ -7,7 +7,8 @@ use Rattle.ob0_text.specs.LineStarts.{HasLines, Table}
 use Rattle.ob0_text.specs.Stretches.{IsPieceOfLine}
 use Rattle.ob0_text.specs.Units.{width_of}
 
--- states that a table is the text's, and that a piece consists of characters of one line
+-- Holds if the table is the text's, and the counted piece consists of characters of one line of the
+-- text.
 pub record AreLinesOf (text : List ℕ) (unit : Unit) (table : Table) (c : CountedPiece) : Type 0 where
   pub lines : HasLines text table
   pub counted : IsPieceOfLine (width_of unit) text c.start c.counted

@@ -1,11 +1,11 @@
--- The number of spaces in one level of indentation.
+-- Defines the number of spaces in one level of indentation.
 -- Rule: docs/PROTOCOL.md, Requests on documents 8.
 use Rattle.std.specs.Prelude.{ℕ, max, min}
 
--- the greatest number of spaces in a level
+-- The greatest number of spaces in a level.
 abbrev pub max_indent : ℕ
 max_indent = 16
 
--- the number of spaces in a level if n are requested: at least 1 and at most 16
+-- Returns the number of spaces in a level if n are requested: at least 1 and at most 16.
 abbrev pub level_spaces : ℕ → ℕ
 level_spaces n = max 1 (min n max_indent)

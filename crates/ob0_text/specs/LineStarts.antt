@@ -1,13 +1,12 @@
--- The byte offsets at which the lines of a text start.
--- Only the bytes on both sides decide whether a line starts at an offset: it starts after LF, and
--- after a CR that no LF follows. `starts_after` gives the starts in a run of bytes, if the bytes
--- after the run are known. The text's start counts as an offset after an LF, so the whole table is
--- `starts_after 0 (LF ∷ bytes) []`. `StartLaws.table` proves this, by the starts after each
--- character (`following_ends`). The function can be split at any place (`following-append`),
--- depends only on the first byte after the run (`following-next`), and shifts with its offset
--- (`following-moved`). So a change keeps the starts before it, tests its own bytes and one on
--- either side, and shifts the starts after it (`table-mended`). A CR and an LF that a change joins
--- or separates need no separate case.
+-- Defines the byte offsets at which the lines of a text start. Only the bytes on both sides decide
+-- whether a line starts at an offset: it starts after LF, and after a CR that no LF follows.
+-- `starts_after` gives the starts in a run of bytes, if the bytes after the run are known. The
+-- text's start counts as an offset after an LF, so the whole table is `starts_after 0 (LF ∷ bytes)
+-- []`. `StartLaws.table` proves this, from the starts after each character (`following_ends`). The
+-- function can be split at any place (`following-append`), depends only on the first byte after the
+-- run (`following-next`), and shifts with its offset (`following-moved`). So a change keeps the
+-- starts before it, tests its own bytes and one on either side, and shifts the starts after it
+-- (`table-mended`). A CR and an LF that a change joins or separates need no separate case.
 -- Rule: docs/PROTOCOL.md, Positions 2 (by bytes, for the table of lines).
 use Rattle.std.specs.Prelude.{◌≡◌, ℕ, suc, ◌+◌, ◌-◌, ◌<◌, ◌≤◌, if◌then◌else◌, List, [], ◌∷◌, ◌++◌, length, map, reverse, slice_index, refl}
 use Rattle.std.specs.Str.{chars}
@@ -16,21 +15,21 @@ use Rattle.ob0_text.specs.declared.position_types.Unit.{Unit}
 use Rattle.ob0_text.specs.Units.{unit_code}
 use Rattle.ob0_text.specs.Texts.{Line, lines, ends_line, byte_len}
 
--- a line's characters and its ending
+-- Returns a line's characters followed by its ending.
 abbrev pub with_ending : Line → List ℕ
 with_ending l = l.body ++ l.ending
 
--- the offsets where consecutive lines start, if the first of them starts at a given offset
+-- Returns the byte offsets at which consecutive lines start, if the first of them starts at `at`.
 unfoldable pub starts_from : ℕ → List Line → List ℕ
 starts_from at [] = []
 starts_from at (l ∷ ls) = at ∷ starts_from (at + byte_len (with_ending l)) ls
 
--- the offsets at which the lines of a text start
+-- Returns the byte offsets at which the lines of a text start.
 abbrev pub line_starts : List ℕ → List ℕ
 line_starts text = starts_from 0 (lines text)
 
--- The offsets at which a line starts right after one of these bytes. The first byte precedes the
--- offset `at`, and `next` follows the last byte
+-- Returns the offsets at which a line starts right after one of these bytes. `at` is the offset
+-- after the first byte, and the bytes `next` follow the last one.
 unfoldable pub starts_after : ℕ → List ℕ → List ℕ → List ℕ
 starts_after at [] next = []
 starts_after at (b ∷ bs) next =
@@ -38,43 +37,44 @@ starts_after at (b ∷ bs) next =
     then at ∷ starts_after (suc at) bs next
     else starts_after (suc at) bs next
 
--- states that each number of a list is below a bound
+-- Holds if each number of the list is below the bound.
 abbrev pub AllUnder : ℕ → List ℕ → Type 0
 AllUnder bound ns = (k : ℕ) → k < length ns → slice_index ns k < bound
 
--- states that no number of a list is below a bound
+-- Holds if each number of the list is at least the bound.
 abbrev pub AllFrom : ℕ → List ℕ → Type 0
 AllFrom bound ns = (k : ℕ) → k < length ns → bound ≤ slice_index ns k
 
--- states that this many starts are before an offset: if the starts are split at that offset, the
--- first part has this length
+-- Holds if `count` starts are before the offset: however the list is split into starts below the
+-- offset and starts at or above it, the first part has this length.
 abbrev pub IsCountBefore : List ℕ → ℕ → ℕ → Type 0
 IsCountBefore starts offset count =
     (front back : List ℕ) → starts ≡ front ++ back → AllUnder offset front → AllFrom offset back
     → count ≡ length front
 
--- a text, and the unit in which its positions are counted
+-- A text, and the unit in which its positions are counted.
 pub record TextInUnit : Type 0 where
   pub text : List ℕ
   pub unit : Unit
 
--- the encoding (`Coded`) of a text with its unit
+-- The encoding (`Coded`) of a text with its unit.
 abbrev pub text_code : Coded TextInUnit
 text_code =
     code_by (List ℕ × Unit) (coded× (coded_list coded_ℕ) unit_code) (λ t. (t.text, t.unit))
     (λ p. record { text = p.0; unit = p.1 }) (λ t. refl)
 
--- The offsets where lines start, from two parts. The second part has distances from the end of a
--- text of length `len`, the last line first
+-- Returns the line starts that two lists store. The second list has distances from the end of a
+-- text of length `len`, the last line first.
 abbrev pub starts_in : ℕ → List ℕ → List ℕ → List ℕ
 starts_in len front back = front ++ map (λ d. len - d) (reverse back)
 
--- the offsets where lines start, and a text's length
+-- The table of a text's lines: the byte offsets at which they start, and the text's length in
+-- bytes.
 pub record Table : Type 0 where
   pub starts : List ℕ
   pub len : ℕ
 
--- states that a table is the table of a text
+-- Holds if the table is the table of the text.
 pub record HasLines (text : List ℕ) (t : Table) : Type 0 where
   pub starts : t.starts ≡ line_starts (chars text)
   pub len : t.len ≡ length text

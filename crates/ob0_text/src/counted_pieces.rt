@@ -1,5 +1,5 @@
-//! The part of a line that was counted last. The next position is usually near its end, so counting
-//! starts there.
+//! Keeps the part of a line that was counted last. The next position is usually near its end, so
+//! counting starts there.
 //!
 //! `Lines` keeps the counted part of the line of the last change: from the line's start to at most
 //! 64 bytes before the change. The search for the start of the next change begins there: stretches
@@ -17,14 +17,15 @@ ghost use Rattle.ob0_text.specs.Stretches.{IsPieceOfLine, IsStretch};
 use crate::position_types::Unit;
 use crate::stretches::{BYTES, Stretch, next_stretch, units_of};
 
-/// Counted characters of a line, starting at the byte offset `start`.
+/// Consecutive characters of a line whose units have been counted. They begin at the byte offset
+/// `start`.
 #[derive(Clone, Copy, Drop)]
 pub struct CountedPiece {
     pub start: usize,
     pub counted: Stretch,
 }
 
-/// Returns a piece without characters.
+/// Returns an empty piece, which is valid for every text.
 pub fn nothing_counted() -> CountedPiece
     ensures { (width : ℕ → ℕ) (text : List ℕ)
         → IsPieceOfLine width text result.start result.counted }
@@ -36,8 +37,8 @@ pub fn nothing_counted() -> CountedPiece
 }
 
 impl CountedPiece {
-    /// Returns this piece if it ends at or before `offset`, otherwise an empty piece. The text up
-    /// to `offset` must stay the same.
+    /// Returns this piece if it ends at or before the byte offset `offset`, otherwise an empty
+    /// piece. The result is valid for every text that has the same bytes before `offset`.
     pub fn up_to(self, offset: usize) -> CountedPiece
         ensures { (width : ℕ → ℕ) (text rest : List ℕ)
             → IsPieceOfLine width text self.start self.counted
@@ -51,9 +52,9 @@ impl CountedPiece {
     }
 }
 
-/// Counts characters of a line from `start`: at most `units` units, and nearly as many if the line
-/// is long enough. If the characters that were counted last begin at the same offset, only the
-/// difference is counted.
+/// Returns a counted piece of the text that begins at `start` and has at most `units` units. It has
+/// nearly that many if the line is long enough. If the piece `last` begins at `start` as well, only
+/// the difference is counted.
 pub fn counted_to(text: &str, unit: Unit, start: usize, last: CountedPiece, units: u64) -> Stretch
     requires start { start ≤ length text.now }
     requires last { IsPieceOfLine (width_of unit) text.now last.start last.counted }
@@ -71,7 +72,7 @@ pub fn counted_to(text: &str, unit: Unit, start: usize, last: CountedPiece, unit
     count_on(text, unit, start, nothing, units)
 }
 
-/// Removes characters from the end of a piece until it has at most `units` units.
+/// Returns a shorter piece: characters are removed from the end until it has at most `units` units.
 fn take_off(text: &str, unit: Unit, start: usize, from: Stretch, units: u64) -> Stretch
     requires start { start ≤ length text.now }
     requires is { IsPieceOfLine (width_of unit) text.now start from }
@@ -91,8 +92,8 @@ fn take_off(text: &str, unit: Unit, start: usize, from: Stretch, units: u64) -> 
     kept
 }
 
-/// Removes the last characters of a piece, at most 64 bytes. Returns None if the piece has no more
-/// than these.
+/// Returns the piece without its last characters, at most 64 bytes of them. Returns None if nothing
+/// would be left.
 fn without_last(text: &str, unit: Unit, start: usize, piece: Stretch) -> Option<Stretch>
     requires { IsPieceOfLine (width_of unit) text.now start piece }
     ensures is { IfSome result (IsPieceOfLine (width_of unit) text.now start) }
@@ -105,7 +106,7 @@ fn without_last(text: &str, unit: Unit, start: usize, piece: Stretch) -> Option<
     if !text.is_char_boundary(start) || !text.is_char_boundary(piece.end) {
         return None;
     }
-    // For the proof: the rest also consists of whole characters.
+    // The proof needs that the rest also consists of whole characters.
     let _left = &text[start..end];
     let last = units_of(&text[end..piece.end], unit)?;
     if piece.units < last {
@@ -117,7 +118,8 @@ fn without_last(text: &str, unit: Unit, start: usize, piece: Stretch) -> Option<
     })
 }
 
-/// Extends a piece by the stretches after it, as long as `units` isn't exceeded.
+/// Returns a longer piece: the stretches after it are added as long as the sum is at most `units`
+/// units.
 fn count_on(text: &str, unit: Unit, start: usize, from: Stretch, units: u64) -> Stretch
     requires few { from.units ≤ units }
     requires is { IsPieceOfLine (width_of unit) text.now start from }
@@ -134,7 +136,7 @@ fn count_on(text: &str, unit: Unit, start: usize, from: Stretch, units: u64) -> 
     counted
 }
 
-/// Returns the stretch after a piece if both together have at most `units` units.
+/// Returns the stretch after a piece if both together have at most `units` units, otherwise None.
 fn stretch_after(text: &str, unit: Unit, piece: Stretch, units: u64) -> Option<Stretch>
     ensures is { IfSome result (IsStretch (width_of unit) text.now piece.end) }
     ensures fits { IfSome result (λ s. piece.units + (s.end - piece.end) ≤ units) }

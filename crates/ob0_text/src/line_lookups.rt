@@ -1,17 +1,16 @@
-//! Look-ups in the table of a text's lines.
+//! Looks up offsets and positions with the table of a text's lines.
 //!
 //! `starts_before` is a binary search. Its contract covers each split of the table into offsets
-//! below a bound and offsets not below it: the result is the length of the first part. The loop
+//! below a bound and offsets at or above it: the result is the length of the first part. The loop
 //! keeps this length between its two ends (`in_front`, `not_in_front` in `Halving`). A pass may
 //! begin at the start of any line (`line_counted`, `line_sought` in `LinePlaces`). So correctness
 //! doesn't depend on finding the nearest line; that only saves time.
 //!
-//! For a list, each look-up continues from the previous place if the next one follows in the same
-//! line or less than 32 bytes later. Otherwise it starts at the beginning of the line, which the
-//! table gives (`nearest_before`, `place_after`). So places in one line cost only the text between
-//! them, and each other place costs a binary search. In one long line this is a single pass, as in
-//! the plain store. If both ends of a changed range are in one line, one pass finds them
-//! (`bounds_in`).
+//! In a list, each look-up continues at the previous place if the next one follows in the same line
+//! or less than 32 bytes later. Otherwise it starts at the beginning of the line, which the table
+//! gives (`nearest_before`, `place_after`). So places in one line cost only the text between them,
+//! and each other place costs a binary search. In one long line this is a single pass, as in the
+//! plain store. If both ends of a changed range are in one line, one pass finds them (`bounds_in`).
 
 ghost use Rattle.std.specs.Prelude.{◌≡◌, ◌+◌, ◌-◌, ◌<◌, ◌≤◌, IfOk, length, map, min, slice_get, slice_index};
 ghost use Rattle.std.specs.Option.{option_map};
@@ -29,8 +28,8 @@ use crate::passes::{PassState, START, is_from, onward_to_offset, onward_to_posit
 use crate::position_types::{Position, Range, Unit};
 use std::alloc::{AllocError, Global};
 
-/// A pass continues without a look-up to an offset that is less than this many bytes after its
-/// place.
+/// The number of bytes within which an offset is near: a pass continues to a near offset without a
+/// look-up.
 const NEAR: usize = 32;
 
 /// Returns the byte offset of a position.
@@ -41,8 +40,8 @@ pub fn offset_in(text: &str, table: &LineTable, unit: Unit, position: Position) 
     place_in(text, table, unit, position).offset
 }
 
-/// The byte offsets at which a range starts and ends, and the counted part of the line in which it
-/// starts.
+/// The byte offsets at which a range starts and ends, and the counted part of the line in which the
+/// range starts.
 #[derive(Clone, Copy, Drop)]
 pub struct Bounds {
     pub start: usize,
@@ -51,8 +50,8 @@ pub struct Bounds {
 }
 
 /// Returns the byte offsets of a range's start and end. The search for the start begins at the part
-/// of the line that was counted last. If the range ends in the line in which it starts, the search
-/// for the end begins at the start.
+/// of the line that was counted last (`last`). If the range ends in the line in which it starts,
+/// the search for the end begins at the start.
 pub fn bounds_in(
     text: &str,
     table: &LineTable,
@@ -81,8 +80,8 @@ pub fn bounds_in(
     }
 }
 
-/// Counts nearly all characters before a position in its line, starting from the part that was
-/// counted last.
+/// Returns a counted piece with nearly all characters before a position in its line. Counting
+/// begins at the piece that was counted last (`last`).
 fn counted_before(
     text: &str,
     table: &LineTable,
@@ -104,8 +103,8 @@ fn counted_before(
     }
 }
 
-/// Returns the place of a position. The search begins after the counted part of the line if that is
-/// possible, otherwise at the start of the line.
+/// Returns the place of a position. The search begins after the counted part of the line if that
+/// part is before the position, otherwise at the start of the line.
 fn place_after_counted(
     text: &str,
     table: &LineTable,
@@ -133,7 +132,8 @@ fn place_after_counted(
     onward_to_position(text, unit, near, position)
 }
 
-/// Returns the place of a position: looks up the line and counts its characters.
+/// Returns the place of a position. Its line is looked up in the table, and the characters of the
+/// line are counted.
 fn place_in(text: &str, table: &LineTable, unit: Unit, position: Position) -> PassState
     requires { HasLines text.now table.now }
     ensures place { IsPlaceBefore (width_of unit) text.now position result }
@@ -152,8 +152,8 @@ pub fn position_in(text: &str, table: &LineTable, unit: Unit, offset: usize) -> 
     position_at(onward_to_offset(text, unit, place, offset))
 }
 
-/// Returns the positions of offsets. Each is counted from the previous place or from the start of
-/// its line.
+/// Returns the positions of byte offsets, in order. Each is counted from the previous place or from
+/// the start of its line.
 pub fn positions_in(
     alloc: Global,
     text: &str,
@@ -175,8 +175,8 @@ pub fn positions_in(
     Ok(positions)
 }
 
-/// Returns the offsets of positions. The search for each begins at the previous position if both
-/// are in the same line, otherwise at the start of its line.
+/// Returns the byte offsets of positions, in order. The search for each begins at the previous
+/// place if both positions are in the same line, otherwise at the start of its line.
 pub fn offsets_in(
     alloc: Global,
     text: &str,
@@ -199,8 +199,8 @@ pub fn offsets_in(
     Ok(offsets)
 }
 
-/// Returns the place of a position. If the previous position is in the same line, the search begins
-/// at its place.
+/// Returns the place of a position. If the previous position `last` is in the same line and not
+/// after it, the search begins at the place of `last`.
 fn place_after(
     text: &str,
     table: &LineTable,
@@ -221,8 +221,8 @@ fn place_after(
     }
 }
 
-/// Returns the place from which an offset is counted: the last place of a pass if it is near or in
-/// the same line, otherwise the start of the offset's line.
+/// Returns the place from which an offset is counted: the last place of a pass if that is near or
+/// in the same line, otherwise the start of the offset's line.
 fn nearest_before(text: &str, table: &LineTable, place: PassState, offset: usize) -> PassState
     requires { HasLines text.now table.now }
     ensures place { (unit : Unit) → IsPlace (width_of unit) text.now place
@@ -239,7 +239,7 @@ fn nearest_before(text: &str, table: &LineTable, place: PassState, offset: usize
     start
 }
 
-/// Returns the start of an offset's line, by binary search.
+/// Returns the start of the line that contains a byte offset, by binary search.
 fn line_before(text: &str, table: &LineTable, offset: usize) -> PassState
     requires { HasLines text.now table.now }
     ensures place { (unit : Unit) → IsPlace (width_of unit) text.now result }
@@ -249,7 +249,7 @@ fn line_before(text: &str, table: &LineTable, offset: usize) -> PassState
     line_place(table, started as u64 - 1)
 }
 
-/// Returns line `k` with its ending, or None if the text has no such line.
+/// Returns line `k`, counted from 0, with its ending. Returns None if the text has no such line.
 pub fn line_in<'a>(text: &'a str, table: &LineTable, k: usize) -> Option<&'a str>
     requires { HasLines text.now table.now }
     ensures { option_map (λ line. chars line.now) result
@@ -262,7 +262,8 @@ pub fn line_in<'a>(text: &'a str, table: &LineTable, k: usize) -> Option<&'a str
     Some(&text[table.at(k)..end])
 }
 
-/// Returns the offset where line `k` ends: the start of the next line, or the end of the text.
+/// Returns the byte offset at which line `k` ends: the start of the next line, or the end of the
+/// text.
 fn end_of(table: &LineTable, len: usize, k: usize) -> usize
     requires { k < length table.now.starts }
     ensures next { k + 1 < length table.now.starts → result ≡ slice_index table.now.starts (k + 1) }
@@ -272,7 +273,7 @@ fn end_of(table: &LineTable, len: usize, k: usize) -> usize
     if k + 1 < count { table.at(k + 1) } else { len }
 }
 
-/// Returns the place at which a line starts. A line after the last one means the last line.
+/// Returns the place at which a line starts. A number after the last line means the last line.
 fn line_place(table: &LineTable, line: u64) -> PassState
     requires { 0 < length table.now.starts }
     ensures offset { result.offset ≡ slice_index table.now.starts result.line }

@@ -1,4 +1,4 @@
-//! The byte offsets at which the lines of a text start.
+//! Finds the byte offsets at which the lines of a text start.
 
 ghost use Rattle.std.specs.Prelude.{◌≡◌, ◌+◌, ◌^◌, ◌<◌, ◌≤◌, ◌∷◌, ◌++◌, IfOk, OnOk, drop, length, option_to_list, slice_index};
 ghost use Rattle.std.specs.Str.{chars};
@@ -16,8 +16,9 @@ pub fn starts_of(alloc: Global, text: &str) -> Result<Vec<usize>, AllocError>
     Ok(starts)
 }
 
-/// Returns the offsets at which a line starts, from the start of `new` to its end, if `new`
-/// replaces the bytes `from..to` of the text. The bytes on either side of the change also decide.
+/// Returns the offsets, from the start of `new` to its end, at which a line starts if `new`
+/// replaces the bytes `from..to` of the text. The byte before the change and the bytes after it are
+/// considered as well.
 pub fn starts_in_change(
     alloc: Global,
     text: &str,
@@ -55,8 +56,8 @@ fn byte_before(bytes: &[u8], offset: usize) -> u8
     }
 }
 
-/// Adds the offsets before, in and right after `bytes` at which a line starts. `bytes` begins at
-/// the offset `from`; `before` is the byte in front of it, `following` are the bytes after it.
+/// Appends the offsets before, in and right after `bytes` at which a line starts. `bytes` begins at
+/// the offset `from`, after the byte `before`. The bytes `following` come after `bytes`.
 fn add_starts(
     starts: &mut Vec<usize>,
     from: usize,
@@ -84,8 +85,8 @@ fn add_starts(
     Ok(())
 }
 
-/// Returns whether a line starts between the byte `last` and the byte `next`. No line starts
-/// between CR and LF.
+/// Returns whether a line starts between the byte `last` and the byte `next` (None at the end of
+/// the text). No line starts between CR and LF.
 #[tactic(auto, unfolding(crate::specs::Texts::ends_line, crate::specs::Texts::starts_with_lf))]
 #[inline(always)]
 fn parts_lines(last: u8, next: Option<u8>) -> bool

@@ -1,6 +1,7 @@
-//! The store `Lines`: one `String`, and a table of the offsets of its lines.
+//! Defines the store `Lines`: a text as one `String`, with a table of the offsets at which its
+//! lines start.
 //!
-//! Its model is the text and the unit. Its invariant says that the table is the text's
+//! The model is the text and the unit. The invariant says that the table is the text's
 //! (`HasLines`). Functions over a text and its table implement all of `TextStore`
 //! (`line_lookups.rt`, `line_table.rt`). The session, `serve` and the commands use this store.
 //! Tests compare it with the plain store `Whole`.
@@ -21,8 +22,8 @@ use crate::stores::TextStore;
 use std::alloc::{AllocError, Global};
 use std::marker::Model;
 
-/// A text with the table of its lines. A look-up costs time for only one line. A change in the line
-/// of the previous change costs only the text between the two.
+/// A text with the table of its lines. A look-up takes time only for one line. A change in the line
+/// of the previous change takes time only for the text between the two.
 #[derive(Drop)]
 pub struct Lines {
     text: String,
@@ -48,8 +49,8 @@ impl Model for Lines {
 }
 
 impl Lines {
-    /// Returns line `k`, counted from 0, with its ending, or None if there is no such line. Only
-    /// the last line has no ending.
+    /// Returns line `k`, counted from 0, with its ending, or None if the text has no such line.
+    /// Only the last line has no ending.
     pub fn line(&self, k: usize) -> Option<&str>
         ensures { option_map (λ line. chars line.now) result
             ≡ option_map with_ending (slice_get (lines self.now.text) k) }

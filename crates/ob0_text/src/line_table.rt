@@ -1,16 +1,16 @@
-//! The table of a text's lines, in two parts.
+//! Keeps the table of a text's lines, in two parts.
 //!
-//! Line starts before the last change are kept as offsets. Those after it are kept as distances
-//! from the text's end, last line first. So the starts after a change keep their distances
-//! (`with_the_end` in `LineTables`). A change costs time for the starts that it adds or drops, and
-//! for those between it and the change before. `move_left` and `move_right` move the latter; their
-//! clauses say that no start changes. Changes that alternate between two distant places move all
-//! starts between them each time.
+//! Line starts before the last change are kept as offsets. The starts after it are kept as
+//! distances from the text's end, last line first. So the starts after a change keep their
+//! distances (`with_the_end` in `LineTables`). A change costs time for the starts that it adds or
+//! drops, and for the starts between it and the previous change. `move_left` and `move_right` move
+//! the latter; their clauses say that no start changes. Changes that alternate between two distant
+//! places move all starts between them each time.
 //!
 //! `put` allocates all memory first: for the new starts, for both parts of the table, then for the
 //! text. After that no allocation can fail, as the contracts of `reserve` and `extend_from_slice`
-//! say. If an allocation fails while starts are moved, the table is split elsewhere but is still
-//! the text's. At the end `replace` releases spare memory (`spare_room.rt`).
+//! say. If an allocation fails while starts are moved, the table is split at another line but is
+//! still the text's. At the end `replace` releases spare memory (`spare_room.rt`).
 
 ghost use Rattle.std.specs.Prelude.{◌≡◌, ◌+◌, ◌<◌, ◌≤◌, ◌++◌, IfOk, OnOk, OnErr, drop, length, min, slice_index, string_bytes, take};
 ghost use Rattle.std.specs.Str.{IsCharBoundary};
@@ -21,9 +21,9 @@ use crate::spare_room::{trim_list, trim_text};
 use std::alloc::{AllocError, Global};
 use std::marker::Model;
 
-/// The byte offsets at which a text's lines start, in order. Those before the last change are kept
-/// as offsets, those after it as distances from the text's end, last line first. So a change moves
-/// only the starts between it and the change before.
+/// The byte offsets at which a text's lines start, in order. Starts before the last change are kept
+/// as offsets, and starts after it as distances from the text's end, last line first. So a change
+/// moves only the starts between it and the previous change.
 #[derive(Drop)]
 pub struct LineTable {
     front: Vec<usize>,
@@ -62,7 +62,7 @@ impl LineTable {
         self.front.len() + self.back.len()
     }
 
-    /// Returns the offset at which a line starts.
+    /// Returns the byte offset at which a line starts. The line is counted from 0.
     pub fn at(&self, line: usize) -> usize
         requires { line < length self.now.starts }
         ensures { result ≡ slice_index self.now.starts line }
@@ -75,7 +75,7 @@ impl LineTable {
             .saturating_sub(self.back[self.back.len() - 1 - later])
     }
 
-    /// Returns how many lines start before an offset, by binary search.
+    /// Returns the number of lines that start before an offset, by binary search.
     pub fn starts_before(&self, offset: usize) -> usize
         ensures bound { result ≤ length self.now.starts }
         ensures count { IsCountBefore self.now.starts offset result }
@@ -93,8 +93,9 @@ impl LineTable {
         low
     }
 
-    /// Replaces the bytes `from..to` of the text that has this table by `new`, and releases memory
-    /// that a shorter text doesn't need. If an allocation fails, the text is unchanged.
+    /// Replaces the bytes `from..to` of the text by `new`, updates this table of the text, and
+    /// releases memory that a shorter text doesn't need. If an allocation fails, the text is
+    /// unchanged.
     pub fn replace(
         &mut self,
         text: &mut String,
@@ -117,7 +118,7 @@ impl LineTable {
         Ok(())
     }
 
-    /// Releases memory that the lines don't need.
+    /// Releases memory that the table doesn't need.
     fn trim(&mut self)
         ensures { self.new ≡ self.old }
     {
@@ -125,7 +126,8 @@ impl LineTable {
         trim_list(&mut self.back);
     }
 
-    /// Replaces the bytes `from..to` by `new`. If an allocation fails, the text is unchanged.
+    /// Replaces the bytes `from..to` of the text by `new`, and updates this table of the text. If
+    /// an allocation fails, the text is unchanged.
     fn put(
         &mut self,
         text: &mut String,
@@ -157,7 +159,8 @@ impl LineTable {
     }
 }
 
-/// Moves starts from the front to the back until `count` are left in the front.
+/// Moves starts from the front to the back until at most `count` are left in the front. If an
+/// allocation fails, the starts are the same.
 fn move_left(
     front: &mut Vec<usize>,
     back: &mut Vec<usize>,
@@ -180,7 +183,8 @@ fn move_left(
     Ok(())
 }
 
-/// Moves starts from the back to the front until the front has `count`.
+/// Moves starts from the back to the front until the front has `count` of them. If an allocation
+/// fails, the starts are the same.
 fn move_right(
     front: &mut Vec<usize>,
     back: &mut Vec<usize>,

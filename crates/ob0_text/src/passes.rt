@@ -1,11 +1,11 @@
-//! Passes over a text that convert offsets to positions, and positions to offsets.
+//! Converts offsets to positions, and positions to offsets, in passes over a text.
 //!
 //! Both passes first advance by whole stretches of a line. Then the pass towards an offset advances
-//! over ASCII bytes, also across lines (`past_ascii`), because the places of edits are close
+//! over ASCII bytes, even across lines (`past_ascii`), because the places of edits are close
 //! together. It decodes only CR and characters outside ASCII. The pass towards a position decodes
 //! each character: in the store of lines, fewer than 64 characters of the line are left. Each pass
-//! keeps one fact (`IsPlace`, `IsPlaceBefore`). `StretchSteps` proves it for a whole stretch, by
-//! the step over one character.
+//! preserves one invariant (`IsPlace`, `IsPlaceBefore`). `StretchSteps` proves that a whole stretch
+//! preserves it, from the step over one character.
 
 ghost use Rattle.std.specs.Prelude.{◌≡◌, ◌↔◌, ◌==◌, ◌||◌, ◌+◌, ◌-◌, ◌<◌, ◌≤◌, IfOk, IfSome, IsTrue, None, map};
 ghost use Rattle.std.specs.Str.{IsCharBoundary, chars};
@@ -18,8 +18,8 @@ use crate::position_types::{Position, Unit};
 use crate::stretches::{Stretch, next_stretch};
 use std::alloc::{AllocError, Global};
 
-/// A place that a pass has reached: its offset, its line, and the units that were counted in that
-/// line.
+/// A place that a pass has reached: its byte offset, its line, and the number of units before it in
+/// that line.
 #[derive(Clone, Copy)]
 pub struct PassState {
     pub offset: usize,
@@ -27,14 +27,14 @@ pub struct PassState {
     pub character: u64,
 }
 
-/// The start of a text.
+/// The place at the start of a text.
 pub const START: PassState = PassState {
     offset: 0,
     line: 0,
     character: 0,
 };
 
-/// Returns the positions of offsets, in one pass if the offsets ascend.
+/// Returns the positions of byte offsets, in one pass if the offsets ascend.
 pub fn positions_of(
     alloc: Global,
     text: &str,
@@ -56,7 +56,7 @@ pub fn positions_of(
     Ok(positions)
 }
 
-/// Returns the offsets of positions, in one pass if the positions ascend.
+/// Returns the byte offsets of positions, in one pass if the positions ascend.
 pub fn offsets_of(
     alloc: Global,
     text: &str,
@@ -80,14 +80,14 @@ pub fn offsets_of(
     Ok(offsets)
 }
 
-/// Returns the position of a byte offset, in units of `unit`.
+/// Returns the position of a byte offset. Its character is counted in `unit`.
 pub fn position_of(text: &str, unit: Unit, offset: usize) -> Position
     ensures { result ≡ position_of (width_of unit) (chars text.now) offset }
 {
     position_at(onward_to_offset(text, unit, START, offset))
 }
 
-/// Returns the byte offset of a position in units of `unit`.
+/// Returns the byte offset of a position. Its character is counted in `unit`.
 pub fn offset_of(text: &str, unit: Unit, position: Position) -> usize
     ensures { result ≡ offset_of (width_of unit) (chars text.now) position }
 {
@@ -118,8 +118,8 @@ fn is_line_break(c: char) -> bool
     c == '\n' || c == '\r'
 }
 
-/// Returns whether a character that precedes `rest` ends a line. A CR before an LF doesn't, because
-/// the LF does.
+/// Returns whether the character `c` before the text `rest` ends a line. A CR before an LF doesn't,
+/// because that LF does.
 fn ends_line(c: char, rest: &str) -> bool
     ensures { result ≡ ends_line c (chars rest.now) }
 {
@@ -135,7 +135,8 @@ fn width(c: char, unit: Unit) -> u64
     }
 }
 
-/// Returns the last place that is at or before an offset and not inside a character.
+/// Returns the last place at or before a byte offset that is not inside a character. The pass
+/// begins at the place `from`.
 pub fn onward_to_offset(text: &str, unit: Unit, from: PassState, offset: usize) -> PassState
     requires place { IsPlace (width_of unit) text.now from }
     requires following { from.offset ≤ offset }
@@ -152,7 +153,7 @@ pub fn onward_to_offset(text: &str, unit: Unit, from: PassState, offset: usize) 
     place
 }
 
-/// Moves a place nearer to an offset, over whole stretches of a line.
+/// Returns a place nearer to a byte offset, after whole stretches of the line.
 fn past_stretches_to(text: &str, unit: Unit, from: PassState, offset: usize) -> PassState
     requires place { IsPlace (width_of unit) text.now from }
     requires following { from.offset ≤ offset }
@@ -175,8 +176,8 @@ fn past_stretches_to(text: &str, unit: Unit, from: PassState, offset: usize) -> 
     place
 }
 
-/// Moves a place nearer to an offset, over ASCII characters except CR. It recognizes them by their
-/// bytes.
+/// Returns a place nearer to a byte offset, after ASCII characters other than CR. They are
+/// recognized by their bytes.
 fn past_ascii(text: &str, unit: Unit, from: PassState, offset: usize) -> PassState
     requires place { IsPlace (width_of unit) text.now from }
     requires following { from.offset ≤ offset }
@@ -212,7 +213,8 @@ fn past_ascii(text: &str, unit: Unit, from: PassState, offset: usize) -> PassSta
     }
 }
 
-/// Returns the place after the next character, if that place is at or before an offset.
+/// Returns the place after the next character, or None if that place is after the offset or the
+/// text has ended.
 fn past_char(text: &str, unit: Unit, place: PassState, offset: usize) -> Option<PassState>
     requires place { IsPlace (width_of unit) text.now place }
     requires following { place.offset ≤ offset }
@@ -247,7 +249,8 @@ fn past_char(text: &str, unit: Unit, place: PassState, offset: usize) -> Option<
     })
 }
 
-/// Returns the place of a position, searching from a place before it.
+/// Returns the place of a position. The search begins at the place `from`, which is before the
+/// position.
 pub fn onward_to_position(text: &str, unit: Unit, from: PassState, position: Position) -> PassState
     requires place { IsPlaceBefore (width_of unit) text.now position from }
     ensures place { IsPlaceBefore (width_of unit) text.now position result }
@@ -281,7 +284,8 @@ pub fn onward_to_position(text: &str, unit: Unit, from: PassState, position: Pos
     }
 }
 
-/// Moves a place nearer to a position of the same line, over whole stretches of that line.
+/// Returns a place nearer to a position, after whole stretches of the position's line. If the place
+/// isn't in that line, it is returned unchanged.
 fn past_stretches(text: &str, unit: Unit, from: PassState, position: Position) -> PassState
     requires place { IsPlaceBefore (width_of unit) text.now position from }
     ensures place { IsPlaceBefore (width_of unit) text.now position result }
@@ -297,7 +301,8 @@ fn past_stretches(text: &str, unit: Unit, from: PassState, position: Position) -
     place
 }
 
-/// Returns the stretch after a place, if it ends at or before a position of the same line.
+/// Returns the stretch after a place. Returns None if the place isn't in the position's line, or if
+/// no stretch after it is sure to end at or before the position.
 fn stretch_before(text: &str, unit: Unit, place: PassState, position: Position) -> Option<Stretch>
     requires { IsCharBoundary text.now place.offset }
     ensures is { IfSome result (λ s. IsStretch (width_of unit) text.now place.offset s) }

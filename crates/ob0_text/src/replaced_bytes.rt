@@ -1,17 +1,18 @@
-//! The bytes of a text that a change has replaced.
+//! Describes which bytes of a text a change has replaced.
 //!
-//! The text before and after the bytes around all changes of a notification is unchanged, byte by
-//! byte (`Covers`, `IsChangedAt`). `IsReplaced` of `ob0_scan` requires this. `replace_at` of a
-//! store returns the bytes of one change, and `around` joins two of these. In the text between the
-//! two changes, everything after the later of their ends is unchanged by both. A change of the
-//! whole text replaces all bytes. The contract also allows more bytes than necessary; having few
-//! only saves time. If the text wasn't known, the result is None, since no part of it is known to
-//! be unchanged.
+//! The result for all changes of a notification is one range of bytes that contains them: the text
+//! before and after it is unchanged, byte by byte (`Covers`, `IsChangedAt`). `IsReplaced` of
+//! `ob0_scan` requires this. `replace_at` of a store returns the bytes of one change, and `around`
+//! joins two of these. In the text between the two changes, everything after the later of their
+//! ends is unchanged by both. A change of the whole text replaces all bytes. The contract allows
+//! more bytes than necessary; having few only saves time. If the text wasn't known, the result is
+//! None, since no part of it is known to be unchanged.
 
 ghost use Rattle.std.specs.Prelude.{◌≡◌, ℕ, List, Option, is_some};
 ghost use Rattle.ob0_text.specs.ChangedBytes.{Covers, IsChangedAt};
 
-/// A change of a text: at byte `from`, `removed` bytes were replaced by `added` others.
+/// A change of a text: at the byte offset `from`, `removed` bytes were replaced by `added` other
+/// bytes.
 #[derive(Clone, Copy, Debug, PartialEq, Eq)]
 pub struct ReplacedBytes {
     pub from: usize,
@@ -20,7 +21,8 @@ pub struct ReplacedBytes {
 }
 
 impl ReplacedBytes {
-    /// Returns the bytes around this change and the next one, which was made to this one's result.
+    /// Returns one change that contains this change and the next one, which was made to the result
+    /// of this change.
     pub(crate) fn around(self, next: ReplacedBytes) -> ReplacedBytes
         ensures { (first middle last : List ℕ)
             → IsChangedAt first middle self
@@ -47,8 +49,8 @@ impl ReplacedBytes {
     }
 }
 
-/// Returns the bytes around the changes so far and one more, or None if the text before them was
-/// unknown.
+/// Returns one change that contains the changes so far (`hull`) and the next one. Returns None if
+/// the text before them wasn't known, or if there was no change.
 pub(crate) fn extend_hull(
     known: bool,
     hull: Option<ReplacedBytes>,

@@ -2,13 +2,13 @@
 //!
 //! A list keeps its capacity when it gets shorter. `trim_list` and `trim_text` release most of it
 //! once less than a quarter is used. So an open document occupies a few times its own length,
-//! however long it was before. They leave twice the length, so a list has to grow or shrink by its
-//! own length before memory is moved again. No clause bounds the capacity, because std's
+//! however long it was before. They keep room for twice the length, so a list has to grow or shrink
+//! by its own length before memory is moved again. No clause bounds the capacity, because std's
 //! `shrink_to` keeps it if a smaller block can't be allocated.
 
 ghost use Rattle.std.specs.Prelude.{◌≡◌, string_bytes};
 
-/// The greatest spare capacity that isn't worth releasing.
+/// The spare capacity that isn't worth releasing, in entries of a list or bytes of a text.
 const SPARED: usize = 512;
 
 /// Releases most of a list's memory if less than a quarter of it is used.

@@ -1,8 +1,8 @@
-//! Stretches of a line: consecutive characters that are counted together.
+//! Counts stretches of a line: consecutive characters that are counted together.
 //!
-//! A stretch has at most 64 bytes of whole characters, and no character in it ends a line. They
-//! aren't decoded. One loop counts the bytes that end a line. In UTF-16 another one counts the
-//! first byte of each character, and counts it twice if the character has four bytes
+//! A stretch has at most 64 bytes of whole characters, and no character in it ends a line. Its
+//! characters aren't decoded. One loop counts the bytes that end a line. In UTF-16 another loop
+//! counts the first byte of each character, and counts it twice if the character has four bytes
 //! (`utf16_units_at`). `StretchBytes` proves that the sum is the width of the characters. Both are
 //! loops over an 8-bit number without an early exit, which the compiler vectorizes. It doesn't
 //! vectorize a loop that sets a flag.
@@ -16,18 +16,18 @@ ghost use Rattle.ob0_text.specs.Stretches.{EndsNoLine, utf16_units_at, AreOfALin
 
 use crate::position_types::Unit;
 
-/// The offset in bytes at which a stretch ends, and the number of units of its characters.
+/// A stretch: the byte offset at which it ends, and the number of units of its characters.
 #[derive(Clone, Copy)]
 pub struct Stretch {
     pub end: usize,
     pub units: u64,
 }
 
-/// The number of bytes that are counted together.
+/// The greatest number of bytes that are counted together.
 pub(crate) const BYTES: usize = 64;
 
-/// Returns the stretch of up to 64 bytes after an offset. Returns None if fewer than 64 bytes
-/// follow, if `room` is less than 64, or if one of the bytes ends a line.
+/// Returns the stretch of up to 64 bytes that begins at a byte offset. Returns None if fewer than
+/// 64 bytes follow, if `room` is less than 64, or if one of the bytes ends a line.
 pub fn next_stretch(text: &str, unit: Unit, from: usize, room: u64) -> Option<Stretch>
     requires { IsCharBoundary text.now from }
     ensures is { IfSome result (λ s. IsStretch (width_of unit) text.now from s) }
@@ -44,7 +44,7 @@ pub fn next_stretch(text: &str, unit: Unit, from: usize, room: u64) -> Option<St
     Some(Stretch { end, units })
 }
 
-/// Returns how many units the characters of a piece have, or None if one of them ends a line.
+/// Returns the number of units of a piece's characters, or None if one of them ends a line.
 pub(crate) fn units_of(piece: &str, unit: Unit) -> Option<u64>
     requires { length piece.now ≤ 64 }
     ensures { IfSome result (λ units. AreOfALine (width_of unit) (chars piece.now) units) }
@@ -58,8 +58,8 @@ pub(crate) fn units_of(piece: &str, unit: Unit) -> Option<u64>
     }
 }
 
-/// Returns whether one of these bytes ends a line. It counts them, because the compiler vectorizes
-/// that.
+/// Returns whether one of these bytes ends a line. It counts them instead of stopping at the first,
+/// because the compiler vectorizes that.
 fn has_line_break(bytes: &[u8]) -> bool
     requires { length bytes.now ≤ 64 }
     ensures no { result ≡ false → All EndsNoLine bytes.now }
@@ -79,7 +79,7 @@ fn is_line_break(byte: u8) -> bool
     byte == b'\n' || byte == b'\r'
 }
 
-/// Returns how many UTF-16 units the characters of a piece have, counted from its bytes.
+/// Returns the number of UTF-16 units of a piece's characters, counted from its bytes.
 fn utf16_units(bytes: &[u8]) -> u64
     requires { length bytes.now ≤ 64 }
     ensures { result ≡ sum_by utf16_units_at bytes.now }

@@ -1,4 +1,4 @@
-//! The plain store: one `String`, searched from its start.
+//! Defines the plain store: a text as one `String`, which each look-up searches from its start.
 
 ghost use Rattle.std.specs.Prelude.{string_bytes};
 ghost use Rattle.std.specs.Str.{chars};

@@ -1,4 +1,5 @@
--- Lists of ascending numbers, of numbers below a limit, and of numbers at or above it.
+-- Proves laws about lists of ascending numbers, of numbers below a limit, and of numbers at or
+-- above a limit.
 use Rattle.std.proofs.Common.{◌≡◌, ◌<◌, ◌≤◌, ℕ, ◌+◌, List, [], ◌∷◌, ◌++◌, arith}
 use Rattle.std.proofs.lemmas.List.{map-append}
 use Rattle.ob0_tree.specs.declared.tree.Role.{Role}
@@ -38,7 +39,7 @@ pub below_more : (n m : ℕ) (xs : List ℕ) → n ≤ m → AllBelow n xs → A
 below_more n m [] le h = tt
 below_more n m (x ∷ xs) le h = (omega (arith, le, h.0), below_more n m xs le h.1)
 
--- the numbers before one in an ascending list are below it
+-- In an ascending list, the numbers before y are below y.
 pub before_one : (low : ℕ) (xs : List ℕ) (y : ℕ) (ys : List ℕ) (high : ℕ) → Ascending low (xs ++ (y ∷ ys)) high → AllBelow y xs
 before_one low [] y ys high h = tt
 before_one low (x ∷ xs) y ys high h =

@@ -1,4 +1,4 @@
--- A walk over a list that keeps the greatest nesting.
+-- Proves facts about a loop over a list that keeps the greatest nesting.
 use Rattle.std.proofs.Common.{◌≡◌, ℕ, ◌+◌, ◌<◌, ◌≤◌, max, List, ◌∷◌, length, drop, get_or, sym, ap, ◌∙◌, arith}
 use Rattle.std.proofs.lemmas.List.{drop_all, drop_more}
 use Rattle.ob0_tree.specs.Depth.{capped}
@@ -11,8 +11,8 @@ capped_max a b = omega arith
 pub capped_more : (a : ℕ) → capped (capped a + 1) ≡ capped (a + 1)
 capped_more a = omega arith
 
--- the greatest nesting so far and the remaining items together are as deep as the start and all
--- items
+-- Holds if the greatest of `deepest` and the nesting of the remaining items is the greatest of
+-- `start` and the nesting of all items.
 pub record Deepest {A : Type 0} {i : Item} (f : A → Tree ℕ (item i)) (start : ℕ) (xs : List A) (done : ℕ) (deepest : ℕ) : Type 0 where
   pub so_far : max deepest (capped (nesting (items_of f (drop done xs)))) ≡ max start (capped (nesting (items_of f xs)))
 
@@ -45,7 +45,7 @@ two_deep {first = first} {second = second} a b p q r = r ∙ (ap (λ x. max x se
 pub one_deeper : {inner outer : ℕ} (a : ℕ) → inner ≡ capped a → outer ≡ capped (inner + 1) → outer ≡ capped (a + 1)
 one_deeper a p q = q ∙ (ap (λ x. capped (x + 1)) p ∙ capped_more a)
 
--- a number below the cap is not capped
+-- A number that is at most 100 isn't changed by the cap.
 pub not_capped : (n m : ℕ) → m ≤ 100 → n ≡ capped m → n ≡ m
 not_capped n m h e = omega (arith, h, e)
 
@@ -55,6 +55,6 @@ max_zero n = omega arith
 pub zero_max : (n : ℕ) → max 0 n ≡ n
 zero_max n = omega arith
 
--- at the end of a list, if the walk started at 0
+-- At the end of a list, if the loop started at 0, the result is the nesting of all items.
 pub list_ends : {A : Type 0} {i : Item} {f : A → Tree ℕ (item i)} {xs : List A} {done : ℕ} {deepest : ℕ} → Deepest f 0 xs done deepest → length xs ≤ done → deepest ≡ capped (nesting (items_of f xs))
 list_ends {f = f} {xs = xs} w all = deepest_ends w all ∙ zero_max (capped (nesting (items_of f xs)))

@@ -1,4 +1,5 @@
--- The first identifier of parts one after another: the first that has one has it.
+-- Proves that the first identifier of several parts is the first identifier of the first part that
+-- has one.
 use Rattle.std.proofs.Common.{◌≡◌, ℕ, ◌+◌, ◌<◌, ◌≤◌, List, [], ◌∷◌, ◌++◌, length, drop, get_or, Option, Some, None, is_some, true, false, refl, sym, ap, ◌∙◌}
 use Rattle.std.proofs.lemmas.List.{drop_all, drop_more}
 use Rattle.ob0_tree.specs.declared.tree.Role.{Role}
@@ -15,7 +16,8 @@ pub found_later : (xs ys : List (Role × ℕ)) {found : Option ℕ} → found �
 found_later [] ys e none = refl
 found_later (x ∷ xs) ys e none = absurd (cc)
 
--- in a list of parts, of which those before one have no identifier
+-- Holds if the first identifier of the remaining parts of a list is the first identifier of all its
+-- parts.
 pub record Seeking {A : Type 0} {i : Item} (f : A → Tree ℕ (item i)) (xs : List A) (done : ℕ) : Type 0 where
   pub so_far : first_identifier (items_of f (drop done xs)) ≡ first_identifier (items_of f xs)
 
@@ -23,13 +25,13 @@ split : {A : Type 0} (xs : List A) (done : ℕ) (x : A) → done < length xs →
 split xs done x less here = drop_more xs done x less ∙ ap (λ y. y ∷ drop (done + 1) xs) (sym here)
 
 module _ {A : Type 0} {i : Item} (f : A → Tree ℕ (item i)) {xs : List A} {done : ℕ} (x : A) where
-  -- the part here has one
+  -- If the part here has an identifier, its first identifier is the first one of all parts.
   pub found_here : {found : Option ℕ} → Seeking f xs done → done < length xs → x ≡ get_or xs done x → found ≡ first_identifier (f x) → is_some found ≡ true → found ≡ first_identifier (items_of f xs)
   found_here w less here e some =
       found_first (identifiers role.Declaring (f x)) (identifiers role.Declaring (items_of f (drop (done + 1) xs))) e some
       ∙ (ap (λ ys. first_identifier (items_of f ys)) (sym (split xs done x less here)) ∙ w.so_far)
 
-  -- it has none
+  -- If the part here has no identifier, the search continues with the next part.
   pub seeks_on : {found : Option ℕ} → Seeking f xs done → done < length xs → x ≡ get_or xs done x → found ≡ first_identifier (f x) → is_some found ≡ false → Seeking f xs (done + 1)
   seeks_on w less here e none =
       record {

@@ -15,7 +15,7 @@ use Rattle.ob0_tree.specs.declared.tree.Role.{Role}
 use Rattle.ob0_tree.specs.declared.tree.Role.TheVariants as role
 use Rattle.ob0_tree.specs.Tree.{occurrences, Sort, Tree, spell, identifiers, none, one, end, more, compares, relates, sum, adds, product, multiplies, designator, integer, parenthesised, negation, field, index, empty, assigns, calls, branches, while_loop, repeat_loop, no_arguments, some_arguments, then_argument, runs, then_statement, elsif_branch, else_branch, listed, then_name, named_type, array_type, record_type, no_fields, some_fields, then_fields, no_formals, some_formals, value_section, variable_section, then_section, declares_constant, declares_constants, declares_type, declares_types, declares_variable, declares_variables, declares_procedure, declares, begins, has_body, is_module}
 
--- the names among tokens
+-- Returns the names among tokens, in order.
 abbrev pub lexeme_names : {N : Type 0} → List (Terminal N) → List N
 lexeme_names [] = []
 lexeme_names (Name n ∷ xs) = n ∷ lexeme_names xs
@@ -30,7 +30,8 @@ lexeme_names-append (Number n ∷ xs) ys = lexeme_names-append xs ys
 lexeme_names-append (Mark k ∷ xs) ys = lexeme_names-append xs ys
 lexeme_names-append (EndOfText ∷ xs) ys = lexeme_names-append xs ys
 
--- holds for any role of the names in a list
+-- The identifiers of a tree are the names that it spells, whatever the role of the names in a list
+-- is.
 pub leaves_spelled : {N : Type 0} {s : Sort} (r : Role) (t : Tree N s) → names_only (identifiers r t) ≡ lexeme_names (spell t)
 leaves_spelled r none = refl
 leaves_spelled r (one t) = simp (leaves_spelled r t)
@@ -169,7 +170,7 @@ ascending_looked_up low ((role.ClosingName, n) ∷ xs) high p = ascending_lower 
 ascending_looked_up low ((role.FieldName, n) ∷ xs) high p = ascending_lower low (n + 1) (looked_up_only xs) high (omega (arith, p.0)) (ascending_looked_up (n + 1) xs high p.1)
 ascending_looked_up low ((role.ModuleName, n) ∷ xs) high p = ascending_lower low (n + 1) (looked_up_only xs) high (omega (arith, p.0)) (ascending_looked_up (n + 1) xs high p.1)
 
--- the identifiers that are looked up also ascend
+-- If the identifiers of a tree ascend, the ones that are looked up ascend as well.
 pub occurrences_ascend : {s : Sort} (t : Tree ℕ s) (low high : ℕ) → Ascending low (leaves t) high → Ascending low (occurrences t) high
 occurrences_ascend t low high p =
     subst (λ l. Ascending low l high) (looked_up-occurrences role.Declaring (λ n xs. refl) t) (ascending_looked_up low (identifiers role.Declaring t) high p)

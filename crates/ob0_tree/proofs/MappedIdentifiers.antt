@@ -1,4 +1,4 @@
--- The identifiers of a tree whose names are rewritten, and its leaves.
+-- Proves facts about the identifiers and the leaves of a tree whose names are replaced.
 use Rattle.std.proofs.Common.{◌≡◌, ℕ, List, [], ◌∷◌, ◌++◌, map, refl, ap, sym, ◌∙◌}
 use Rattle.std.proofs.lemmas.List.{map-append}
 use Rattle.ob0_tree.specs.declared.tree.Role.{Role}
@@ -9,7 +9,7 @@ use Rattle.ob0_tree.specs.Tree.{Sort, Tree, identifiers, mapped, spell, adds, ar
 use Rattle.ob0_tree.proofs.Leaves.{leaves_spelled, lexeme_names}
 use Rattle.ob0_tree.proofs.Mapped.{spell_mapped}
 
--- two mapped lists, one after the other
+-- If two lists are mapped, their concatenation is mapped as well.
 pub both : {A B : Type 0} (p : A → B) {us vs : List B} (xs ys : List A) → us ≡ map p xs → vs ≡ map p ys → us ++ vs ≡ map p (xs ++ ys)
 both p xs ys e h = (λ i. e i ++ h i) ∙ sym (map-append p xs ys)
 

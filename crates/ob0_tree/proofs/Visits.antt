@@ -1,4 +1,4 @@
--- A walk over a list: the visitor has seen the identifiers of each item after those of the earlier
+-- Proves that a walk over a list visits the identifiers of each item after those of the earlier
 -- items.
 use Rattle.std.proofs.Common.{◌≡◌, ℕ, ◌+◌, ◌<◌, ◌≤◌, List, [], ◌∷◌, ◌++◌, length, drop, get_or, refl, sym, ap, ◌∙◌, append-nil, append_assoc}
 use Rattle.std.proofs.lemmas.List.{drop_all, drop_more}
@@ -7,8 +7,8 @@ use Rattle.ob0_tree.specs.Tree.{Tree, Item, item, identifiers}
 use Rattle.ob0_tree.specs.View.{items_of}
 use Rattle.ob0_tree.specs.Visited.{visited_all}
 
--- the state so far, continued with the remaining items, is the initial state continued with all
--- items
+-- Holds if visiting the remaining items in the present state gives the same state as visiting all
+-- items in the initial state.
 pub record Visiting {S A : Type 0} {i : Item} (step : Role → ℕ → S → S) (f : A → Tree ℕ (item i)) (r : Role) (start : S) (xs : List A) (done : ℕ) (now : S) : Type 0 where
   pub so_far : visited_all step (identifiers r (items_of f (drop done xs))) now ≡ visited_all step (identifiers r (items_of f xs)) start
 
@@ -31,7 +31,7 @@ pub all_visited : {S A : Type 0} {i : Item} {step : Role → ℕ → S → S} {f
     → Visiting step f r start xs done now → length xs ≤ done → now ≡ visited_all step (identifiers r (items_of f xs)) start
 all_visited {step = step} {f = f} {r = r} {xs = xs} {done = done} {now = now} w all = sym (ap (λ ys. visited_all step (identifiers r (items_of f ys)) now) (drop_all done xs all)) ∙ w.so_far
 
--- parts that are visited one after another
+-- Visiting two lists of identifiers one after the other is visiting their concatenation.
 pub then_visited : {S : Type 0} (step : Role → ℕ → S → S) (start : S) (a b : List (Role × ℕ)) {first : S} → first ≡ visited_all step a start → visited_all step b first ≡ visited_all step (a ++ b) start
 then_visited step start a b e = ap (visited_all step b) e ∙ sym (visited_append step a b start)
 
@@ -39,7 +39,7 @@ pub four_visited : {S : Type 0} (step : Role → ℕ → S → S) (start : S) (a
     → visited_all step d third ≡ visited_all step (a ++ (b ++ (c ++ d))) start
 four_visited step start a b c d {first = first} {second = second} e f g = then_visited step second c d g ∙ (then_visited step first b (c ++ d) f ∙ then_visited step start a (b ++ (c ++ d)) e)
 
--- a visitor that lists the identifiers appends them to its initial list
+-- A visitor that lists the identifiers appends them to its initial list.
 pub visits_listed : (xs before : List (Role × ℕ)) → visited_all (λ r i before. before ++ ((r, i) ∷ [])) xs before ≡ before ++ xs
 visits_listed [] before = sym (append-nil before)
 visits_listed (x ∷ xs) before = visits_listed xs (before ++ (x ∷ [])) ∙ append_assoc before (x ∷ []) xs

@@ -1,7 +1,7 @@
--- The nesting as the code counts it: in 32 bits, with saturating addition.
+-- Defines the nesting as the code counts it: in 32 bits, with saturating addition.
 -- Rule: none; for contracts: nesting as the code counts it.
 use Rattle.std.specs.Prelude.{ℕ, min}
 
--- a number, capped at the largest of 32 bits
+-- Returns the number, or the largest number of 32 bits if it is greater.
 abbrev pub capped : ℕ → ℕ
 capped n = min n 4294967295

@@ -1,15 +1,16 @@
--- The first identifier in a part of a module.
+-- Defines the first identifier in a part of a module.
 -- Rule: none; for contracts on where the statements of a block begin.
 use Rattle.std.specs.Prelude.{ℕ, List, [], ◌∷◌, Option, Some, None}
 use Rattle.ob0_tree.specs.declared.tree.Role.{Role}
 use Rattle.ob0_tree.specs.declared.tree.Role.TheVariants as role
 use Rattle.ob0_tree.specs.Tree.{Sort, Tree, identifiers}
 
--- the token of the first identifier in a list
+-- Returns the index of the token of the first identifier in the list, or None if the list is empty.
 abbrev pub first_of : List (Role × ℕ) → Option ℕ
 first_of [] = None
 first_of (x ∷ xs) = Some x.1
 
--- the token of the first identifier in a part of a module
+-- Returns the index of the token of the first identifier in a part of a module, or None if the part
+-- has none.
 abbrev pub first_identifier : {s : Sort} → Tree ℕ s → Option ℕ
 first_identifier t = first_of (identifiers role.Declaring t)

@@ -1,4 +1,4 @@
--- The identifiers of a tree, as indexes of a text's tokens.
+-- Defines the identifiers of a tree as indexes of a text's tokens, and their order.
 -- Rule: none; for contracts: identifiers by their places.
 use Rattle.std.specs.Prelude.{◌≡◌, ℕ, ◌+◌, ◌≤◌, ◌<◌, List, [], ◌∷◌, ◌++◌, map, length}
 use Rattle.std.specs.List.{HoldsAt}
@@ -9,34 +9,34 @@ use Rattle.ob0_tree.specs.declared.tree.Role.{Role}
 use Rattle.ob0_tree.specs.declared.tree.Role.TheVariants as role
 use Rattle.ob0_tree.specs.Tree.{Sort, Tree, identifiers}
 
--- Numbers in strictly ascending order, from `low` up to but not including `high`.
+-- Holds if the numbers are strictly ascending, from `low` up to but not including `high`.
 abbrev pub Ascending : ℕ → List ℕ → ℕ → Type 0
 Ascending low [] high = low ≤ high
 Ascending low (x ∷ xs) high = (low ≤ x) × Ascending (x + 1) xs high
 
--- identifiers without their roles
+-- Returns the identifiers without their roles.
 abbrev pub names_only : {N : Type 0} → List (Role × N) → List N
 names_only xs = map (λ x. x.1) xs
 
--- all identifiers of a tree, in text order
+-- Returns all identifiers of a tree, in text order.
 abbrev pub leaves : {N : Type 0} {s : Sort} → Tree N s → List N
 leaves t = names_only (identifiers role.Declaring t)
 
--- the index, if the token is an identifier
+-- Returns the index if the token is an identifier, otherwise nothing.
 abbrev pub identifier_at : ℕ → TokenKind → List ℕ
 identifier_at i kind.Identifier = i ∷ []
 identifier_at i k = []
 
--- the indexes of the identifiers among tokens; the first token has this index
+-- Returns the indexes of the identifiers among tokens, the first of which has the index i.
 abbrev pub identifiers_from : ℕ → List Token → List ℕ
 identifiers_from i [] = []
 identifiers_from i (t ∷ ts) = identifier_at i t.kind ++ identifiers_from (i + 1) ts
 
--- the token at an index is an identifier
+-- Holds if the token at the index is an identifier.
 abbrev pub IsIdentifierToken : List Token → ℕ → Type 0
 IsIdentifierToken ts i = (i < length ts) × HoldsAt (λ t. t.kind ≡ kind.Identifier) ts i
 
--- the tokens at these indexes are identifiers
+-- Holds if the tokens at all these indexes are identifiers.
 abbrev pub AreIdentifiers : List Token → List ℕ → Type 0
 AreIdentifiers ts [] = Unit {0}
 AreIdentifiers ts (i ∷ others) = IsIdentifierToken ts i × AreIdentifiers ts others

@@ -1,4 +1,4 @@
--- A module that was parsed from a text.
+-- Defines a module that was parsed from a text.
 -- Rule: none; for contracts: a module as it was read.
 use Rattle.std.specs.Prelude.{◌≡◌, ℕ, List, [], ◌∷◌, ◌++◌}
 use Rattle.ob0_scan.specs.Scanned.{Scanned}
@@ -10,27 +10,28 @@ use Rattle.ob0_tree.specs.View.{block_of}
 use Rattle.ob0_tree.specs.Module.{ModuleOf}
 use Rattle.ob0_tree.specs.Places.{lexemes, named}
 
--- The tokens and comments of a text, and the parts of its module. Names are indexes of tokens.
+-- A parsed module: the tokens and comments of its text, its name, its block and its closing name.
+-- Names are indexes of tokens.
 pub record Parsed : Type 0 where
   pub source : Scanned
   pub name : ℕ
   pub block : Block
   pub closing : ℕ
 
--- joins a tree to the tokens that it spells
+-- Returns the parsed module with this tree, which spells the tokens.
 abbrev pub parsed_by : Scanned → ModuleTree → Parsed
 parsed_by s t = record { source = s; name = t.name; block = t.block; closing = t.closing }
 
--- the tree, with indexes of tokens as its names
+-- Returns the module's tree, with indexes of tokens as its names.
 abbrev pub tree_of : Parsed → Tree ℕ module_text
 tree_of m = is_module m.name (block_of m.block) m.closing
 
--- the tree, with texts as its names
+-- Returns the module's tree, with texts as its names.
 abbrev pub named_tree_of : Parsed → Tree (List ℕ) module_text
 named_tree_of m = named m.source (tree_of m)
 
--- The text is a module with this tree. Each name and number of the tree is the index of its own
--- token.
+-- Holds if the text is a module with this tree, and each name and number of the tree is the index
+-- of its own token.
 pub record IsParsed (m : Parsed) : Type 0 where
   pub module_of : ModuleOf m.source (named_tree_of m)
   pub places : spell (tree_of m) ++ (EndOfText ∷ []) ≡ lexemes m.source.tokens

@@ -1,4 +1,5 @@
--- Trees over the indexes of a text's tokens: each identifier and integer is the index of its token.
+-- Defines trees over the indexes of a text's tokens, in which each identifier and integer is the
+-- index of its token.
 -- Rule: none; for contracts: trees over indexes of tokens.
 use Rattle.std.specs.Prelude.{ℕ, ◌+◌, Option, Some, None, List, [], ◌∷◌, slice_get}
 use Rattle.ob0_scan.specs.declared.lexeme.TokenKind.{TokenKind}
@@ -8,44 +9,47 @@ use Rattle.ob0_scan.specs.Scanned.{Scanned, spanned}
 use Rattle.ob0_tree.specs.Lexeme.{Terminal, Name, Number, Mark, EndOfText}
 use Rattle.ob0_tree.specs.Tree.{Sort, Tree, mapped}
 
--- the token at an index; the index replaces a name or a number
+-- Returns the token at the index i, with i in place of its name or its number.
 abbrev pub lexeme_of : ℕ → TokenKind → Terminal ℕ
 lexeme_of i kind.Identifier = Name i
 lexeme_of i (kind.Integer value) = Number i
 lexeme_of i k = Mark k
 
--- the tokens, numbered starting at an index; the end counts as a token
+-- Returns the tokens with their indexes in place of names and numbers, followed by the end of the
+-- text. The first token has the index i.
 abbrev pub lexemes_from : ℕ → List Token → List (Terminal ℕ)
 lexemes_from i [] = EndOfText ∷ []
 lexemes_from i (t ∷ ts) = lexeme_of i t.kind ∷ lexemes_from (i + 1) ts
 
--- the tokens of a text, in the form in which a tree over indexes spells them
+-- Returns the tokens of a text, in the form in which a tree over indexes spells them, followed by
+-- the end of the text.
 abbrev pub lexemes : List Token → List (Terminal ℕ)
 lexemes ts = lexemes_from 0 ts
 
--- the text of a token
+-- Returns the text of a token, or the empty text for None.
 abbrev pub text_in : List ℕ → Option Token → List ℕ
 text_in text None = []
 text_in text (Some t) = spanned text t.span
 
--- the value of an integer; 0 for any other token
+-- Returns the value of an integer, or 0 for any other kind of token.
 abbrev pub value_of : TokenKind → ℕ
 value_of (kind.Integer value) = value
 value_of _ = 0
 
--- the value of a token; 0 if it isn't an integer or doesn't exist
+-- Returns the value of a token, or 0 if it isn't an integer or is None.
 abbrev pub value_in : Option Token → ℕ
 value_in None = 0
 value_in (Some t) = value_of t.kind
 
--- the text of the token at this index
+-- Returns the text of the token with this index, or the empty text if there is no such token.
 abbrev pub text_at : Scanned → ℕ → List ℕ
 text_at s i = text_in s.text (slice_get s.tokens i)
 
--- the value of the token at this index
+-- Returns the value of the token with this index, or 0 if it isn't an integer or there is no such
+-- token.
 abbrev pub value_at : Scanned → ℕ → ℕ
 value_at s i = value_in (slice_get s.tokens i)
 
--- replaces the indexes in a tree by the names and numbers of their tokens
+-- Returns the tree with each index replaced by the name or number of its token.
 abbrev pub named : {s : Sort} → Scanned → Tree ℕ s → Tree (List ℕ) s
 named s t = mapped (text_at s) (value_at s) t

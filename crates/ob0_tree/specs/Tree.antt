@@ -1,4 +1,4 @@
--- The syntax trees of the language: one family of trees with a sort for each nonterminal.
+-- Defines the syntax trees of the language: one family of trees with a sort for each nonterminal.
 -- Rule: docs/LANGUAGE.md, Grammar 1, Nesting and limits 1.
 use Rattle.std.specs.Prelude.{ℕ, ◌+◌, Option, List, [], ◌∷◌, ◌++◌, max}
 use Rattle.ob0_scan.specs.declared.lexeme.TokenKind.{TokenKind}
@@ -13,7 +13,7 @@ use Rattle.ob0_tree.specs.declared.tree.Role.{Role}
 use Rattle.ob0_tree.specs.declared.tree.Role.TheVariants as role
 use Rattle.ob0_tree.specs.Lexeme.{Terminal, Name, Number, Mark, relation_mark, sign_marks, add_mark, multiply_mark}
 
--- the parts of productions that may be repeated or omitted
+-- The parts of productions that may be repeated or omitted.
 pub data Item : Type 0 where
   selector : Item
   multiplier : Item
@@ -57,7 +57,7 @@ pub data Sort : Type 0 where
   block : Sort
   module_text : Sort
 
--- A tree with an N for each identifier and a number for each integer.
+-- A syntax tree of a sort, with an N for each identifier and a number for each integer.
 pub data Tree (N : Type 0) : Sort → Type 0 where
   none : {i : Item} → Tree N (maybe i)
   one : {i : Item} → Tree N (item i) → Tree N (maybe i)
@@ -121,11 +121,11 @@ pub data Tree (N : Type 0) : Sort → Type 0 where
   has_body : Tree N declarations → Tree N (maybe body) → Tree N block
   is_module : N → Tree N block → N → Tree N module_text
 
--- a list of one token, of this kind
+-- Returns a list of one token of this kind.
 abbrev pub mark : {N : Type 0} → TokenKind → List (Terminal N)
 mark k = Mark k ∷ []
 
--- the tokens of a tree, with one case for each production of the grammar
+-- Returns the tokens of a tree, with one case for each production of the grammar.
 abbrev pub spell : {N : Type 0} {s : Sort} → Tree N s → List (Terminal N)
 spell none = []
 spell (one t) = spell t
@@ -220,7 +220,8 @@ spell (is_module name b closing) =
     ∷ (spell b
     ++ (Mark (kind.Reserved reserved.End) ∷ Name closing ∷ mark (kind.Symbol symbol.Dot)))
 
--- the depth of nested constructs; a construct counts if its case adds 1
+-- Returns the greatest number of constructs that are nested in each other. A construct counts if
+-- its case adds 1.
 abbrev pub nesting : {N : Type 0} {s : Sort} → Tree N s → ℕ
 nesting none = 0
 nesting (one t) = nesting t
@@ -277,7 +278,7 @@ nesting (begins s) = nesting s
 nesting (has_body ds b) = max (nesting ds) (nesting b)
 nesting (is_module name b closing) = nesting b
 
--- the tree with its names and numbers replaced
+-- Returns the tree with each name replaced by f, and each number by g.
 abbrev pub mapped : {N M : Type 0} {s : Sort} → (N → M) → (ℕ → ℕ) → Tree N s → Tree M s
 mapped f g none = none
 mapped f g (one t) = one (mapped f g t)
@@ -336,9 +337,9 @@ mapped f g (begins s) = begins (mapped f g s)
 mapped f g (has_body ds b) = has_body (mapped f g ds) (mapped f g b)
 mapped f g (is_module name b closing) = is_module (f name) (mapped f g b) (f closing)
 
--- The identifiers of a tree in text order, each with its role. The first argument is the role of
--- the names in a list of names. Such names declare variables or parameters, or they are the fields
--- of a record.
+-- Returns the identifiers of a tree in text order, each with its role. The first argument is the
+-- role of the names in a list of names. Such names declare variables or parameters, or they are the
+-- fields of a record.
 abbrev pub identifiers : {N : Type 0} {s : Sort} → Role → Tree N s → List (Role × N)
 identifiers r none = []
 identifiers r (one t) = identifiers r t
@@ -400,8 +401,8 @@ identifiers r (has_body ds b) = identifiers r ds ++ identifiers r b
 identifiers r (is_module name b closing) =
     (role.ModuleName, name) ∷ (identifiers r b ++ ((role.ModuleName, closing) ∷ []))
 
--- The names that are looked up, in text order: no declaring names, closing names, fields or names
--- of the module.
+-- Returns the names of a tree that are looked up, in text order: no declaring names, closing names,
+-- fields or names of the module.
 abbrev pub occurrences : {N : Type 0} {s : Sort} → Tree N s → List N
 occurrences none = []
 occurrences (one t) = occurrences t

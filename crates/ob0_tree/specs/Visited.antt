@@ -1,15 +1,17 @@
--- The state of a walk after the identifiers of a part of a module, visited in text order.
+-- Defines the state of a walk after the identifiers of a part of a module, visited in text order.
 -- Rule: none; for contracts of walks over identifiers.
 use Rattle.std.specs.Prelude.{ℕ, List, [], ◌∷◌}
 use Rattle.ob0_tree.specs.declared.tree.Role.{Role}
 use Rattle.ob0_tree.specs.declared.tree.Role.TheVariants as role
 use Rattle.ob0_tree.specs.Tree.{Sort, Tree, identifiers}
 
--- the state after these identifiers; `step` gives the state after one
+-- Returns the state after these identifiers, from the state `known`. `step` gives the state after
+-- one identifier.
 abbrev pub visited_all : {A : Type 0} → (Role → ℕ → A → A) → List (Role × ℕ) → A → A
 visited_all step [] known = known
 visited_all step (x ∷ xs) known = visited_all step xs (step x.0 x.1 known)
 
--- the state after the identifiers of a part; a list of names declares them
+-- Returns the state after the identifiers of a part of a module. The names of a list of names by
+-- itself are declared.
 abbrev pub visited : {A : Type 0} {s : Sort} → (Role → ℕ → A → A) → Tree ℕ s → A → A
 visited step t known = visited_all step (identifiers role.Declaring t) known

@@ -1,4 +1,5 @@
-//! The first identifier of a block's statements. The search ends there, and nothing is allocated.
+//! Finds the first identifier of a block's statements. The search ends there, and nothing is
+//! allocated.
 
 ghost use Rattle.std.specs.Prelude.{◌≡◌};
 ghost use Rattle.ob0_tree.specs.FirstIdentifier.{first_identifier};
@@ -6,7 +7,8 @@ ghost use Rattle.ob0_tree.specs.View.{expression_of, compound_of, simple_of, ter
 
 use crate::tree::{Compound, Elsif, Expression, Factor, If, Simple, Statement, Term};
 
-/// The token of the first identifier of a block's statements. None if they have no identifier.
+/// Returns the index of the token of the first identifier in a block's statements, or None if they
+/// have no identifier.
 pub fn first_identifier(statements: &Option<Vec<Statement>>) -> Option<usize>
     ensures { result ≡ first_identifier (body_of statements.now) }
 {

@@ -1,4 +1,4 @@
-//! The list of a module's identifiers.
+//! Lists the identifiers of a module.
 
 ghost use Rattle.std.specs.Prelude.{◌≡◌, ◌++◌, ◌∷◌, [], IfOk};
 ghost use Rattle.ob0_tree.specs.declared.tree.Role.TheVariants as roles;
@@ -10,7 +10,7 @@ use crate::walk::Visitor;
 use std::alloc::{AllocError, Global};
 use std::marker::Model;
 
-/// The identifiers visited so far, in text order.
+/// The identifiers visited so far, in text order, each with its role and the index of its token.
 #[derive(Drop)]
 struct Seen {
     listed: Vec<(Role, usize)>,
@@ -45,7 +45,7 @@ impl Seen {
 
 impl<'t> Module<'t> {
     #[tactic(auto, using(crate::proofs::Visits::visits_listed))]
-    /// Lists every identifier of the module in text order, with its role and the index of its
+    /// Returns all identifiers of the module in text order, each with its role and the index of its
     /// token.
     pub fn identifiers(&self, alloc: Global) -> Result<Vec<(Role, usize)>, AllocError>
         ensures { IfOk result (λ v. v.items ≡ identifiers roles.Declaring (tree_of self.now)) }

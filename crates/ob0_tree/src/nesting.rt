@@ -1,6 +1,6 @@
-//! The nesting of a module's constructs.
+//! Computes the nesting of a module's constructs.
 //!
-//! The private functions use saturating addition, so no function of the cycle needs a premise:
+//! The private functions use saturating addition, so the recursive functions need no precondition:
 //! their clauses say `capped (nesting ..)`. `Module::nesting` removes the cap, because by its
 //! invariant a module has at most 100 levels.
 
@@ -16,13 +16,13 @@ use crate::tree::{
     Variables, WrittenType,
 };
 
-/// The largest number of nested constructs in a module.
+/// The greatest number of nested constructs in a module.
 pub const MAX_NESTING: u32 = 100;
 
 impl<'t> Module<'t> {
-    /// Returns the greatest number of nested constructs. Parenthesised and negated factors,
-    /// indexes, IF, WHILE and REPEAT, array and record types, and procedures count. The result is
-    /// at most [`MAX_NESTING`].
+    /// Returns the greatest number of constructs that are nested in each other. Parenthesised and
+    /// negated factors, indexes, IF, WHILE and REPEAT, array and record types, and procedures
+    /// count. The result is at most [`MAX_NESTING`].
     pub fn nesting(&self) -> u32
         ensures { result ≡ nesting (tree_of self.now) }
     {
@@ -32,7 +32,7 @@ impl<'t> Module<'t> {
     }
 }
 
-/// Adds one level.
+/// Returns one level more, or the largest number of 32 bits if that is exceeded.
 fn deeper(levels: u32) -> u32
     ensures { result ≡ capped (levels + 1) }
 {

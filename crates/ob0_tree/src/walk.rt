@@ -1,9 +1,9 @@
-//! A walk over the identifiers of a module, with any `Visitor`.
+//! Visits the identifiers of a module in text order, with any `Visitor`.
 //!
 //! After the walk, the `Visitor` is the fold of its ghost member `seen` over the tree's
-//! identifiers. Invariants and answers of the cycle take `g` first; `g.V.Visitor.seen` is the
-//! member. A visitor that clauses mention needs a model, because an equation of a `Vec` would also
-//! compare capacities.
+//! identifiers. Invariants and answers of the recursive functions take `g` first;
+//! `g.V.Visitor.seen` is the member. A visitor that clauses mention needs a model, because an
+//! equation of a `Vec` would also compare capacities.
 
 #![tactic(auto, using(std::proofs::lemmas::Grind::common_steps, crate::proofs::Visits::visited_append))]
 
@@ -22,9 +22,10 @@ use crate::tree::{
 };
 use std::alloc::AllocError;
 
-/// The state of a walk over the identifiers of a part of a module, in text order.
+/// A state that is updated at each identifier of a part of a module, in text order.
 pub trait Visitor {
-    /// The state after an identifier.
+    /// Returns the state after an identifier, given its role, the index of its token and the state
+    /// before.
     ghost seen: { Role → ℕ → Self → Self };
 
     /// Visits an identifier, given its role and the index of its token.
@@ -33,7 +34,7 @@ pub trait Visitor {
 }
 
 impl<'t> Module<'t> {
-    /// Visits every identifier of the module.
+    /// Visits every identifier of the module, in text order.
     pub fn visit<V: Visitor>(&self, visitor: &mut V) -> Result<(), AllocError>
         ensures { OnOk result (visitor.new ≡ visited V.seen (tree_of self.now) visitor.old) }
     {
@@ -203,7 +204,7 @@ fn elsifs<V: Visitor>(visitor: &mut V, parts: &Vec<Elsif>) -> Result<(), AllocEr
     Ok(())
 }
 
-/// Visits names that all have this role.
+/// Visits names that all have this role, in text order.
 fn names<V: Visitor>(visitor: &mut V, role: Role, ns: &Names) -> Result<(), AllocError>
     ensures { OnOk result (visitor.new ≡ visited_all V.seen (identifiers role (names_of ns.now)) visitor.old) }
 {

@@ -3,7 +3,8 @@ use Rattle.ob0_run.specs.Outcomes.{items_out}
 use Rattle.ob0_commands.specs.Printed.{IsWrittenBut, output_text}
 use Rattle.ob0_commands.proofs.running.print_items.Given as goal
 
--- the items so far are written except for the waiting text, and nothing failed
+-- The loop's invariant: the text of the first items is written except for the waiting text, and no
+-- call has failed.
 abbrev pub invariant-loop-item : goal.invariant-loop-item
 invariant-loop-item g l = record {
   written : IsWrittenBut (g.O.Write.contents l.fn.out) (g.O.Write.contents l.out) (output_text (items_out l.output)) (l.text.bytes ++ output_text (items_out (drop l.item-index l.output)));

@@ -5,7 +5,8 @@ use Rattle.ob0_text.specs.OpenDocuments.{change_in_text}
 use Rattle.ob0_rpc.specs.Notifications.{all_changes}
 use Rattle.ob0_rpc.proofs.changes.read_changes.Given as goal
 
--- the changes so far, followed by the changes of the remaining entries
+-- The loop's invariant: all changes are the changes so far, followed by the changes of the
+-- remaining entries.
 abbrev pub invariant-loop-entry : goal.invariant-loop-entry
 invariant-loop-entry l =
     (all_changes (items_view (into_iter_items l.initial.entry-iterator)) ≡ option_map (λ later. map change_in_text l.changes.items ++ later) (all_changes (items_view (into_iter_items l.entry-iterator))))

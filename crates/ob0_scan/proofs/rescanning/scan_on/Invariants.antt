@@ -4,8 +4,8 @@ use Rattle.ob0_scan.specs.Reused.{back_tokens, back_comments}
 use Rattle.ob0_scan.specs.Rescanning.{ReadsOn}
 use Rattle.ob0_scan.proofs.rescanning.scan_on.Given as goal
 
--- the remaining old tokens and comments include every one that begins after the change and at or
--- after this place
+-- The loop's invariant: the remaining old tokens and comments include every one that begins after
+-- the change and at or after this place.
 abbrev pub invariant-loop-scanner : goal.invariant-loop-scanner
 invariant-loop-scanner l = record {
   under_way : IsUnderWay l.scanner;

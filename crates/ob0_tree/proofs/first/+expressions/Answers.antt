@@ -11,7 +11,8 @@ use Rattle.ob0_tree.proofs.Firsts.{found_first, found_here, found_later, none_fo
 use Rattle.ob0_tree.proofs.Viewed.{addend_parts, simple_parts, term_parts}
 use Rattle.ob0_tree.proofs.first.+expressions.Goals as goal
 
--- the first identifier of the further terms, if the first term has none
+-- If the first term has no identifier, the first identifier of the further terms is the first one
+-- of the simple expression.
 further_terms : (s : Simple) (xs : List Addend) {found : Option ℕ} → found ≡ first_identifier (term_of (out-Simple s).first) → is_some found ≡ false → xs ≡ (out-Simple s).more.items
     → first_identifier (items_of addend_of xs) ≡ first_identifier (simple_of s)
 further_terms s xs e none same =
@@ -19,7 +20,8 @@ further_terms s xs e none same =
     ∙ (found_later (identifiers role.Declaring (term_of (out-Simple s).first)) (identifiers role.Declaring (items_of addend_of (out-Simple s).more.items)) e none
     ∙ ap first_identifier (sym (simple_parts s)))
 
--- the first identifier of the further factors
+-- If the first factor has no identifier, the first identifier of the further factors is the first
+-- one of the term.
 further_factors : (t : Term) (xs : List Multiplier) {found : Option ℕ} → found ≡ first_identifier (factor_of (out-Term t).first) → is_some found ≡ false → xs ≡ (out-Term t).more.items
     → first_identifier (items_of multiplier_of xs) ≡ first_identifier (term_of t)
 further_factors t xs e none same =

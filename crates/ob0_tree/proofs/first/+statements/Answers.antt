@@ -9,7 +9,8 @@ use Rattle.ob0_tree.proofs.Firsts.{found_first, found_later}
 use Rattle.ob0_tree.proofs.Viewed.{if_parts, repeat_read, while_read}
 use Rattle.ob0_tree.proofs.first.+statements.Goals as goal
 
--- the four parts of an IF, of which those before one have no identifier
+-- Proves the search in the four parts of an IF: if the parts before one of them have no identifier,
+-- it has the first one.
 module _ (i : If) where
   abbrev condition : List (Role × ℕ)
   condition = identifiers role.Declaring (expression_of (out-If i).condition)

@@ -6,7 +6,7 @@ use Rattle.std.proofs.lemmas.List.Folds.{drop_split}
 use Rattle.ob0_scan.specs.Reused.{IsReplaced}
 use Rattle.ob0_scan.proofs.old_lexemes.ReplacedRange.replace.Goals as goal
 
--- the old text with the new middle is the new text
+-- The old text with the changed bytes replaced by the new ones is the new text.
 put_in : (old new : List ℕ) (from removed added : ℕ) → IsReplaced old new from removed added → replace_range old from (from + removed) (slice_range new from (from + added)) ≡ new
 put_in old new from removed added r =
     ap₂ (λ a b. (a ++ slice_range new from (from + added)) ++ b) r.front r.following

@@ -9,7 +9,7 @@ use Rattle.ob0_session_json.specs.Shapes.{diagnostic_value, diagnostics_value}
 use Rattle.ob0_session_json.specs.declared.publication.Diagnostic.{Diagnostic}
 use Rattle.ob0_session_json.proofs.publication.PublishDiagnosticsWriteJson.write.Goals as goal
 
--- the JSON value of a list of stored diagnostics
+-- The JSON values of a list of the code's diagnostics are the JSON values of their meanings.
 same_list : (ds : List Diagnostic) → array (items_of (map (λ d. diagnostic_value (diagnostic_in d)) ds)) ≡ diagnostics_value (map diagnostic_in ds)
 same_list ds = sym (ap (λ (es : List Data). array (items_of es)) (map-map diagnostic_value diagnostic_in ds))
 
