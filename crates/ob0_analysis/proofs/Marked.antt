@@ -64,8 +64,8 @@ relabelled_one f i j (kind.Reserved word) e = refl
 relabelled_one f i j (kind.Integer value) e = ap Number e
 relabelled_one f i j (kind.Symbol symbol) e = refl
 
--- If `f` maps the indexes from `i` on to the indexes from `j` on, it maps the tokens of these kinds at `i` to the
--- tokens at `j`.
+-- If `f` maps the indexes starting at `i` to the indexes starting at `j`, it maps the tokens of these kinds at `i` to
+-- the tokens at `j`.
 pub moved_on : (f : ℕ → ℕ) (i j : ℕ) (ks : List TokenKind) → ((d : ℕ) → d < length ks → f (i + d) ≡ j + d) → map (relabelled f f) (marked i ks) ≡ marked j ks
 moved_on f i j [] h = refl
 moved_on f i j (k ∷ ks) h =

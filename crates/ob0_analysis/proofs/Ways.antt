@@ -1,4 +1,4 @@
--- The tokens around a body to which a way leads. The way stays the same if the body is left out or if tokens are moved.
+-- The tokens around a body to which a way leads. The way is unchanged if the body is left out or if tokens are moved.
 use Rattle.std.proofs.Common.{◌≡◌, ℕ, zero, suc, nat_lt, if◌then◌else◌, List, [], ◌∷◌, ◌++◌, refl, sym, ap, ◌∙◌, append_assoc}
 use Rattle.ob0_scan.specs.declared.lexeme.TokenKind.TheVariants as kind
 use Rattle.ob0_scan.specs.declared.lexeme.Reserved.TheVariants as reserved

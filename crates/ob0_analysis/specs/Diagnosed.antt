@@ -85,7 +85,7 @@ IsRefusalAt s (Syntax token expected) c = c ≡ expects (expected_text expected)
 IsRefusalAt s (TooDeep token) c = c ≡ too_deep (place_of s token)
 IsRefusalAt s Memory c = ⊥
 
--- holds if the parser refuses the text and the only complaint is at the token where it stops
+-- holds if the parser refuses the text and the only complaint is at the refused token
 pub record ReportsParser (text : List ℕ) (reported : List Complaint) : Type 0 where
   pub scanned : Scanned
   pub scan : IsScanOf text scanned

@@ -376,8 +376,8 @@ impl ReadText {
         Ok(ReadText::of_module(parts))
     }
 
-    /// Analyses a text whose tokens have the same spelling as the previous text's. All results are kept, and each fault
-    /// stays at the same tokens.
+    /// Analyses a text whose tokens have the same spelling as the previous text's. All results are kept, with the
+    /// faults at the same tokens.
     fn of_same_words(
         alloc: Global,
         tokens: Tokens,

@@ -148,7 +148,7 @@ part-finds l apart v m = go (reaches l apart v m)
     go (inl e) = subst (λ o. Finds (value_by tagged) (value_by l) o (part (value_by l v) (step_by l m))) (sym e) tt
     go (inr h) = subst₂ (λ o p. Finds (value_by tagged) (value_by l) o p) (sym h.0.reached) (sym h.1.reached) (finds-map (value_by tagged) (value_by l) (part v (step_by bare m)))
 
--- If the first run finds a part at a path, so does the second run.
+-- The second run finds a part at a path if the first run finds one.
 
 pub at_path-finds : (l : FieldNames) → KeepsApart l → (moves : List Move) (v : Value) → Finds (value_by tagged) (value_by l) (at_path (map (step_by tagged) moves) (value_by tagged v)) (at_path (map (step_by l) moves) (value_by l v))
 at_path-finds l apart [] v = (v, refl, refl)

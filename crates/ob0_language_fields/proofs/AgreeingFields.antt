@@ -47,7 +47,7 @@ pub records-split : (p q : FieldNames) (xs ys : List RecordFields) → RecordsAg
 records-split p q [] ys h = (tt, h)
 records-split p q (x ∷ xs) ys h = let g = records-split p q xs ys h.1 in ((h.0, g.0), g.1)
 
--- If two such functions agree on a type, they agree on a field selected from it and on the field's type.
+-- If two such functions agree on a type, they agree on each field of that type and on the field's type.
 
 field-agrees : (p q : FieldNames) (k : ℕ) (fs : FieldShapes) (x : Name) (s : Shape) → FieldsAgree p q k fs → shape_of_field fs x ≡ Some s → (p (Some k) x ≡ q (Some k) x) × ShapeAgrees p q s
 field-agrees p q k no_field_shape x s agrees h = absurd (cc)

@@ -1,4 +1,4 @@
--- Whether a list has a name twice doesn't depend on the order of its names, and a renaming to a free name keeps names
+-- A list has no name twice exactly if it has none twice in any other order. Also, a renaming to a free name keeps names
 -- unique. A scope is a list with the newest binding first, so a block's scope has the block's names in reverse text
 -- order. `onto xs ys` is xs reversed, followed by ys, and `onto (xs ++ ys) zs` is `onto ys (onto xs zs)`.
 use Rattle.std.proofs.Common.{Bool, List, Some, [], ap, arith, eqb-true, falls, false, if◌then◌else◌, ne_eqb, not, refl, sym, true, ℕ, ◌&&◌, ◌++◌, ◌<◌, ◌==◌, ◌||◌, ◌∙◌, ◌∷◌, ◌≡◌, ◌≤◌}

@@ -1,4 +1,4 @@
--- If a module declares names once, so does the edited module.
+-- The edited module declares names once if the original module does.
 use Rattle.std.proofs.Common.{Bool, List, [], ap, false, if◌then◌else◌, length, not, refl, suc, sym, true, ℕ, ◌&&◌, ◌++◌, ◌+◌, ◌==◌, ◌||◌, ◌∙◌, ◌∷◌, ◌≡◌}
 use Rattle.ob0_tree.specs.Tree.{Tree, array_type, block, constant, constants, declares, declares_constant, declares_constants, declares_procedure, declares_type, declares_types, declares_variable, declares_variables, end, fields, formals, further_fields, further_section, has_body, is_module, item, items, maybe, module_text, more, named_type, no_fields, no_formals, none, occurrences, one, procedure, record_type, some_fields, some_formals, then_fields, then_section, type_name, type_names, value_section, variable, variable_section, variables, written_type}
 use Rattle.ob0_language_names.specs.DeclaredOnce.{are_distinct, block_names, block_once, declared_once, fields_once, formals_once, group_fields, group_once, groups_fields, groups_once, is_among, procedure_names, procedure_once, procedures_once, types_once, variables_once}

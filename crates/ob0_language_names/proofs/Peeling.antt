@@ -44,8 +44,8 @@ further_kept f f' g g' h h' keeps (more (then_name x) rest) = λ i. more (then_n
 pub names_kept : {N M K : Type 0} (f f' : N → M) (g g' : M → K) (h h' : N → K) → ((x : N) → g' (f' x) ≡ h' x) → (ns : Tree N names) → with_names g g' (with_names f f' ns) ≡ with_names h h' ns
 names_kept f f' g g' h h' keeps (listed x rest) = λ i. listed (keeps x i) (further_kept f f' g g' h h' keeps rest i)
 
--- If the occurrences of both trees are equal, so are the trees. `f` renames the looked-up names, `g` labels the renamed
--- tree and `h` the original tree. `f'`, `g'` and `h'` do the same for all other names.
+-- Both trees are equal if their occurrences are equal. `f` renames the looked-up names, `g` labels the renamed tree and
+-- `h` the original tree. `f'`, `g'` and `h'` do the same for all other names.
 pub peel : {N M K : Type 0} {s : Sort} (f f' : N → M) (g g' : M → K) (h h' : N → K) → ((x : N) → g' (f' x) ≡ h' x) → (t : Tree N s)
     → Peel K (occurrences (with_names g g' (with_names f f' t))) (occurrences (with_names h h' t)) (with_names g g' (with_names f f' t) ≡ with_names h h' t)
 peel f f' g g' h h' keeps none = nothing refl

@@ -46,7 +46,7 @@ sections-labels naming label scope k (more (then_section s) fs) =
     (λ i. section_names-relabel naming label scope k s i ++ sections-labels naming label (declare_names k (section_names s) scope) (after_names k (section_names s)) fs i)
     ∙ sym (label_names-append label k (section_names s) (formal_names fs))
 
--- The labels in the scope after declarations are those of the declared names in reverse, then the earlier ones.
+-- The labels in the scope after declarations are the declared names' labels in reverse, then the earlier labels.
 
 pub labels_in-names : {N M : Type 0} (label : Labels N M) (k : ℕ) (xs : List N) (scope : Scope N) → labels_in label (declare_names k xs scope) ≡ onto (label_names label k xs) (labels_in label scope)
 labels_in-names label k [] scope = refl

@@ -42,7 +42,7 @@ pub bind_typed-append : (ps : List (TypedParameter Label)) (first env : TypeEnvi
 bind_typed-append [] first env = refl
 bind_typed-append (p ∷ ps) first env = bind_typed-append ps ((p.name, a_variable p.formal.shape) ∷ first) env
 
--- The bindings of a procedure are those of its block, followed by those of its heading.
+-- The bindings of a procedure are its block's bindings, followed by its heading's bindings.
 pub headed_bindings : (env : TypeEnvironment Label) (k : ℕ) (x closing : Label) (fs : Tree Label (maybe formals)) (b : Tree Label block) (qs : List (TypedParameter Label)) → typed_parameters as_labels env k (formal_sections fs) ≡ Some qs
     → procedure_bindings as_labels env k (declares_procedure x fs b closing) ≡ block_bindings as_labels (bind_typed qs (heading x qs env)) (k + formals_constructors (formal_sections fs)) b ++ bind_typed qs (heading x qs [])
 unfolding procedure_bindings

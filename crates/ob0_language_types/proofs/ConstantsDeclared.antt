@@ -266,7 +266,7 @@ pub record AreValuesBetween (k n : ℕ) (value : ℕ → Option Value) (bindings
   pub binds : Binds k n bindings
   pub has_value_is : (d : ℕ) → k ≤ d → value d ≡ has_value bindings d
 
--- If a value is right below a bound and another value is right from the bound on, the choice between them is right.
+-- If one value is right below a bound and another value otherwise, the choice between them is right.
 below-or : (d n : ℕ) (x y : Option Value) (z : Option Value) → (d < n → x ≡ z) → (n ≤ d → y ≡ z) → (if nat_lt d n then x else y) ≡ z
 below-or d n x y z h g = by (nat_lt d n) refl
   where
@@ -388,7 +388,7 @@ opened-binds known noted k b inner o =
     let kp : ℕ = first_procedure k b in
     binds-append k kp o.others.bound o.constants.bound (binds-wider kt kp k kp o.others.bound (types-above k b) (le_refl kp) (others-binds known noted k b inner o)) (binds-wider k kt k kp o.constants.bound (le_refl k) (procedures-above k b) o.constants.binds)
 
--- The bindings of a block, after those of its procedures, have the values of the block's constants.
+-- The bindings of a block, after its procedures' bindings, have the values of the block's constants.
 block-values : (known : Known) (noted : TypeNoted Name) (k : ℕ) (b : Tree Name block) (inner P : TypeEnvironment Label) (o : Opened known noted k b inner)
     → AreValuesBetween (first_procedure k b) (after_block k b) (λ d. value_in_procedures (bind_names (named_types (block_types b) ++ variable_names (block_variables b)) no_constant o.constants.known_after) d (first_procedure k b) (block_procedures b)) P
     → AreValuesBetween k (after_block k b) (λ d. value_in_block known d k b) (P ++ (o.others.bound ++ o.constants.bound))
@@ -467,7 +467,7 @@ procedure-entered known noted j k knows below x fs qs h =
     (parameters_typed as_names j (suc k) noted (TypedBelow-weaken k (suc k) noted (le_of_lt (le_refl (suc k))) below) (formal_sections fs)) qs (ap (typed_parameters as_labels env j) (sym (formals-section as_names (as_label as_names) (typed_scope noted) (suc k) fs)) ∙ h) in
     subst₂ (λ ys zs. Entered known noted k x ys zs) listed.1 listed.2 (entered known noted k knows below x listed.0)
 
--- The bindings of a procedure, after those of later procedures, have the values of the constants.
+-- The bindings of a procedure, after the later procedures' bindings, have the values of the constants.
 procedure-values : (known : Known) (k : ℕ) (x closing : Name) (fs : Tree Name (maybe formals)) (b : Tree Name block) (rest : Tree Name (items procedure)) (B H R : TypeEnvironment Label)
     → AreValuesBetween (after_names (suc k) (formal_names (formal_sections fs))) (after_procedure (suc k) (declares_procedure x fs b closing))
     (λ d. value_in_block (bind_names (formal_names (formal_sections fs)) no_constant ((x, no_constant) ∷ known)) d (after_names (suc k) (formal_names (formal_sections fs))) b) B

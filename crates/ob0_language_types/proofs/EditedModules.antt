@@ -175,7 +175,7 @@ written-fitted (is_module x b closing) d w v uses c u =
 pub inlining_keeps_well_typed-holds : InliningKeepsWellTyped
 inlining_keeps_well_typed-holds m d w v uses c u well = subst WellTyped (written-module uses v d m) (well_typed-edited (writing uses v d) w m (written-fitted m d w v uses c u) well)
 
--- holds if the label isn't that of the removed declaration
+-- holds if the label isn't the removed declaration's label
 
 abbrev pub IsOther : ℕ → ℕ → Label → Type 0
 IsOther d j l = label_ordinal l ≡ Some d → ⊥

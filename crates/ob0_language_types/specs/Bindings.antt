@@ -23,7 +23,7 @@ abbrev pub for_some : {A B : Type 0} → Option A → (A → List B) → List B
 for_some None list = []
 for_some (Some a) list = list a
 
--- Return the bindings of a block, which are those of its constants, types, variables and procedures.
+-- Return the bindings of a block: its constants, types, variables and procedures.
 unfoldable mutual
   unfolding declare_procedure typed_parameters
 
@@ -53,7 +53,7 @@ unfoldable mutual
       (k + procedure_constructors p) rest
       ++ procedure_bindings naming env k p)
 
-  -- returns the bindings of a procedure: those of its block, of its parameters, and of its name
+  -- returns the bindings of a procedure: its block's bindings, its parameters and its name
   pub procedure_bindings : {N : Type 0}
       → Naming N
       → TypeEnvironment N

@@ -66,8 +66,8 @@ unfoldable mutual
       else value_in_procedures ((procedure_name p, no_constant) ∷ known) d
       (after_procedure (suc k) p) rest
 
-  -- returns the value of a constant in a procedure's block; its parameters, which aren't constants, have ordinals from
-  -- `k` on
+  -- returns the value of a constant in a procedure's block; its parameters, which aren't constants, have ordinals
+  -- starting at `k`
   pub value_in_procedure : Known → ℕ → ℕ → Tree Name (item procedure) → Option Value
   value_in_procedure known d k (declares_procedure x fs b closing) =
       if nat_lt d (after_names k (formal_names (formal_sections fs))) then None

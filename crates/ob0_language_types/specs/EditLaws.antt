@@ -73,7 +73,7 @@ InliningEverywhereKeepsWellTyped =
     → WellTyped m
     → WellTyped (inlined_everywhere m d v)
 
--- In a well-typed module each use of a constant is a whole factor. So it is no type, called procedure or target of an
+-- In a well-typed module each use of a constant is a whole factor. The use is no type, called procedure or target of an
 -- assignment, and it has no selectors.
 abbrev pub ConstantsAreAlone : Type 0
 ConstantsAreAlone =

@@ -9,7 +9,7 @@ use Rattle.ob0_language_values.specs.Values.{Index, Outcome, Place, Shape, Step,
 pub data Standard : Type 0 where
   reads writes writes_line : Standard
 
--- the meaning of a name; `V` is the type of what is known about a variable, and `P` about a procedure
+-- the meaning of a name; `V` is the type of the facts about a variable, and `P` the type of the facts about a procedure
 pub data Object (V P : Type 0) : Type 0 where
   a_type : Shape → Object V P
   a_constant : Value → Object V P

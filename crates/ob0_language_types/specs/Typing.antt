@@ -192,8 +192,8 @@ array_length _ = None
 
 -- Return the number of scalars in a type. An empty record counts as one.
 abbrev mutual
-  -- returns the number of scalars in a type; an array has those of all its elements, a record those of its fields, at
-  -- least one
+  -- returns the number of scalars in a type; an array has the scalars of all its elements, a record the scalars of its
+  -- fields, at least one
   pub scalars : Shape → ℕ
   scalars integer_shape = 1
   scalars boolean_shape = 1

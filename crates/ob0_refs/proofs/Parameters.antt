@@ -1,13 +1,13 @@
--- Gathering parameters from two parallel lists, the names and the signature, gives all parameters.
--- `Gathered` states that the parameters found so far, followed by those of the remaining items, are all parameters. It
--- takes any two lists, each with a function. So code and definition can be compared without a `map` between them.
+-- Gathering parameters from two parallel lists, the names and the signature, gives all parameters. `Gathered` states
+-- that the parameters found so far and the parameters of the remaining items are all parameters. It takes any two
+-- lists, each with a function. So code and definition can be compared without a `map` between them.
 use Rattle.std.proofs.Common.{◌≡◌, ℕ, ◌<◌, zero, suc, min, List, [], ◌∷◌, ◌++◌, length, drop, map, get_or, refl, ap, sym, ◌∙◌, arith, append_assoc, append-nil}
 use Rattle.ob0_refs.specs.Declarations.{parameter_hover, parameters_hover}
 use Rattle.ob0_refs.specs.Hovers.{HoverParameter}
 use Rattle.ob0_language_names.specs.Names.{Name}
 use Rattle.ob0_language_types.specs.WellTyped.{Formal}
 
--- holds if the parameters found so far, followed by those of the remaining items, are all parameters
+-- holds if the parameters found so far, followed by the parameters of the remaining items, are all parameters
 abbrev pub Gathered : {A B : Type 0} → (A → Name) → (B → Formal) → List A → List B → ℕ → List HoverParameter → Type 0
 Gathered name formal xs ys n found = found ++ parameters_hover (map name (drop n xs)) (map formal (drop n ys)) ≡ parameters_hover (map name xs) (map formal ys)
 

@@ -74,7 +74,8 @@ once_from false any e f = absurd (true≢false (sym e ∙ f))
 from_once : (b : Bool) (any : Bool) → any ≡ not b → b ≡ true → any ≡ false
 from_once b any e t = e ∙ ap not t
 
--- If a table is present only without faults and then has a property, a table that is present has this property.
+-- If a table is present only when there are no faults, and then has a property, a table that is present has this
+-- property.
 known_declares : (none : Type 0) (known : Option Tables) (P : Tables → Type 0) → MatchOption known (none → ⊥) (λ t. none × P t) → IfSome known P
 known_declares none None P h = tt
 known_declares none (Some t) P h = h.1

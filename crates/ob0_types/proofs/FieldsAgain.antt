@@ -1,4 +1,4 @@
--- If the tokens of one body changed, the fields of the module are its old fields with those of the body replaced.
+-- If the tokens of one body changed, the fields of the module are its old fields with the body's fields replaced.
 -- Fields stay at the same tokens, because in a well-typed module every identifier in the place of a field is a field.
 use Rattle.std.proofs.Common.{◌≡◌, ℕ, List, [], ◌∷◌, ◌++◌, option_and_then, length, sym, ap, ◌∙◌, subst}
 use Rattle.ob0_language_types.specs.Bindings.{declared_object}

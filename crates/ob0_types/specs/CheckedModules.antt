@@ -20,7 +20,7 @@ pub record CheckedModule : Type 0 where
   pub known : Option Tables
 
 -- Holds if the faults are the first 100 of the module, in order, and there are none exactly if the module is
--- well-typed. A table, if present, has the module's declarations. Without faults it is present.
+-- well-typed. A table, if present, has the module's declarations. If there are no faults, the table is present.
 pub record IsChecked (c : CheckedModule) : Type 0 where
   pub resolved : IsResolution c.names
   pub reported : (c.faults ≡ []) ↔ WellTyped (named_tree_of c.names.module_read)

@@ -46,7 +46,7 @@ abbrev mutual
 abbrev pub body_in_module : ℕ → Tree ℕ module_text → OneBody
 body_in_module low (is_module x b closing) = body_in_block low closing b
 
--- replaces the tokens of a module by the tokens of another text; the tree stays the same
+-- replaces the tokens of a module by the tokens of another text; the tree is unchanged
 abbrev pub over_text : Scanned → Parsed → Parsed
 over_text source m =
     record { source = source; name = m.name; block = m.block; closing = m.closing }

@@ -194,7 +194,7 @@ variables-same noted j k (has_body (declares cs ts vs ps) statements) =
     λ i. j + (ap types_constructors (types-section as_names (as_label as_names) (types_scope k b scope) (first_type k b) ts) ∙ types_constructors-relabel as_names (as_label as_names) (types_scope k b scope) (first_type k b) (section_types ts)) i
     + (ap variables_constructors (variables-section as_names (as_label as_names) (variables_scope k b scope) (first_variable k b) vs) ∙ variables_constructors-relabel as_names (as_label as_names) (variables_scope k b scope) (first_variable k b) (section_variables vs)) i
 
--- the parts of a procedure that fits, and what is known about each
+-- the parts of a procedure that fits, and the facts about each
 record Procedure (noted : TypeNoted Name) (j : ℕ) (statements : Tree Name (maybe body)) (x : Name) (fs : Tree Name (maybe formals)) (b : Tree Name block) (closing : Name) (rest : Tree Name (items procedure)) : Type 0 where
   listed : List (TypedParameter Name)
   typed : typed_parameters as_names (typed_by_name noted) j (formal_sections fs) ≡ Some listed

@@ -72,7 +72,8 @@ module _ {T : Type 0} (facts : Facts T) where
   unfolding reported_statement
   else_reported a = refl
 
-  -- The faults of a sequence or a branch are those of its first statement or branch, followed by those of the rest.
+  -- The faults of a sequence or a branch are the faults of its first statement or branch, followed by the faults of the
+  -- rest.
   flat : (ss : List Statement) → reported_sequence facts (sequence_listed ss) ≡ reported_statements facts (items_of further_statement_of ss)
   unfolding reported_statement
   flat [] = refl

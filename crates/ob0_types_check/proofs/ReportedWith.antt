@@ -75,7 +75,7 @@ module _ (wanted : Bool) (own : ℕ) (w : Walked) (a : Tree ℕ (maybe body)) (b
   count : length after ≡ length before + length of_body
   count = ap length r.reported ∙ length-append before of_body
 
-  -- A body with faults is appended to the list of faulty bodies, and a body without faults isn't.
+  -- A body is appended to the list of faulty bodies exactly if it has a fault.
   pub body_faulty : (faulty : List ℕ) → length before < length after → faulty ≡ w.faulty ++ own ∷ [] → ReportsAfter before after (record { so_far = p; faulty = faulty }) (body_if wanted own w a)
   body_faulty faulty less e = body_if_with faulty (e ∙ sym (with_some of_body own w.faulty (omega (arith, less, count))))
 

@@ -67,7 +67,7 @@ module _ (old new : Scanned) where
       let n : Alike h k (next t.known) (other u.known) = subst (λ a. Alike h k (next a) (other u.known)) (sym p.before) (subst (λ b. Alike h k (next (f p.value)) (other b)) (sym p.after) (q p.value)) in
       record { value = n.value; before = n.before; after = n.after; faults = both_same old new p.faults n.faults }
 
-  -- A following step without faults keeps two equal reports equal.
+  -- Two equal reports are still equal after a following step that has no fault.
   pub gives : {A B : Type 0} {t u : Reported A} (made : A → B) → Equal t u → Equal (t >>= (λ x. right (made x))) (u >>= (λ x. right (made x)))
   gives made p = goes_on (λ x. right (made x)) (λ x. right (made x)) p (λ x. equal (made x))
 

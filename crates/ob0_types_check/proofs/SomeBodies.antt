@@ -1,4 +1,4 @@
--- A body without faults still has none after the tokens of the module changed in other bodies.
+-- A body that has no faults still has none after the tokens of the module changed in other bodies.
 use Rattle.std.proofs.Common.{◌≡◌, ℕ, Bool, true, false, List, [], ◌∷◌, ◌++◌, map, Option, None, length, refl, sym, ap, ◌∙◌, subst, arith, true≢false}
 use Rattle.std.proofs.lemmas.List.{length-map, nil_from_length}
 use Rattle.ob0_scan.specs.Scanned.{Scanned}
@@ -124,7 +124,7 @@ one_then {Z} {A} {Y} {B} {f} {g} {h} {k} {t} {u} {v} J K next other another down
       same = reported_equal (ap (λ (x : Reported B). x.known) last) (λ i. (a.same i).faults ++ (last i).faults);
     }
 
--- If a list of faults is empty, so is the list of faults at the same tokens of another text.
+-- If a list of faults is empty, the list of faults at the same tokens of another text is also empty.
 none_same_tokens : (old new : Scanned) (before after : List Fault) → AreAtSameTokens old new before after → before ≡ [] → after ≡ []
 none_same_tokens old new before after h none =
     let count : length before ≡ length h.tokens = ap length h.in_old ∙ length-map h.tokens (fault_at old) in

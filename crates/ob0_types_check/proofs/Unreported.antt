@@ -1,4 +1,4 @@
--- If no fault is reported for a whole, none is reported for its parts. If a definition decides by a condition, the
+-- If no fault is reported for a whole, no fault is reported for its parts. If a definition decides by a condition, the
 -- lemma is about any Bool instead of the condition (`first-reported`, `second-reported`).
 use Rattle.std.proofs.Common.{◌≡◌, Bool, true, false, ◌||◌, ◌&&◌, List, [], ◌∷◌, ◌++◌, if◌then◌else◌, Option, Some, None, option_and_then, refl, ap, ◌∙◌}
 use Rattle.ob0_scan.specs.declared.fault.Fault.{Fault}

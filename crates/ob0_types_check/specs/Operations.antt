@@ -25,12 +25,12 @@ use Rattle.ob0_types_check.specs.Known.{Facts, Form, Meaning, Operand, Reported,
 abbrev pub preceded_by : {A : Type 0} → List Fault → Reported A → Reported A
 preceded_by before t = record { known = t.known; faults = before ++ t.faults }
 
--- returns a result without faults
+-- returns a result that has no faults
 abbrev pub right : {A : Type 0} → A → Reported A
 right x = record { known = x; faults = [] }
 
 infixl 20 ◌>>=◌
--- runs one step after another: the faults are those of both steps, in order
+-- runs one step after another: the result has the faults of both steps, in order
 abbrev pub ◌>>=◌ : {A B : Type 0} → Reported A → (A → Reported B) → Reported B
 t >>= next = preceded_by t.faults (next t.known)
 

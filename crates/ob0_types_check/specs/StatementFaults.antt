@@ -115,7 +115,7 @@ reported_call facts p es = call_by_meaning facts p (facts.object_for p) es
 unfoldable mutual
   unfolding reported_required reported_target reported_argument
 
-  -- returns the faults of a statement, including those of the statements in it
+  -- returns the faults of a statement, including the faults of the statements in it
   pub reported_statement : {T : Type 0} → Facts T → Tree ℕ statement → List Fault
   reported_statement facts empty = []
   reported_statement facts (assigns x path e) =

@@ -4,7 +4,7 @@
 //! An expression or type with a fault has an unknown type. An unknown type causes no further fault.
 //!
 //! No other code decides whether a module fits. The laws connect this walk with the definitions. A module that doesn't
-//! fit has a fault (`modules_fit`), and a well-typed module has none (`no_fault_in_modules`). After a module without
+//! fit has a fault (`modules_fit`), and a well-typed module has none (`no_fault_in_modules`). If a module has no
 //! faults, the walk has found every declaration (`declarations_known`).
 //!
 //! The definitions give the faults of each production, in order, with codes and spans. They also give the result of the

@@ -104,7 +104,7 @@ owners_joined : (table : ℕ → Option ℕ) (xs ys : List (ℕ × Option ℕ)) 
 owners_joined table [] ys h g = g
 owners_joined table (x ∷ xs) ys h g = (h.0, owners_joined table xs ys h.1 g)
 
--- If a table has the owners of three lists, it has those of the first and the last.
+-- If a table has the owners of three lists, it has the owners of the first and the last list.
 owners_around : (table : ℕ → Option ℕ) (xs ys zs : List (ℕ × Option ℕ)) → HasOwners table (xs ++ (ys ++ zs)) → HasOwners table (xs ++ zs)
 owners_around table xs ys zs h =
     let p = owners_split table xs (ys ++ zs) h in

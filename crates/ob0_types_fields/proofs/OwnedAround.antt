@@ -1,5 +1,5 @@
 -- The identifiers of a module can be split around the statements to which a way leads. The identifiers before and after
--- are those of the module without these statements.
+-- are the identifiers of the module without these statements.
 use Rattle.std.proofs.Common.{◌≡◌, ℕ, zero, suc, ◌+◌, List, [], ◌∷◌, ◌++◌, None, Option, refl, ap, ◌∙◌, sym, append_assoc, append-nil}
 use Rattle.ob0_tree.specs.Tree.{Tree, block, declares, declares_procedure, end, has_body, is_module, item, items, module_text, more, procedure}
 use Rattle.ob0_language_types.specs.Declarations.{after_formals, after_types, after_variables, block_constructors, formals_constructors, procedure_constructors, procedures_constructors, types_constructors, variables_constructors}

@@ -1,4 +1,4 @@
--- Identifiers in text order are split uniquely around a closing name, and so are the fields among them.
+-- Identifiers in text order, and the fields among them, are split uniquely around a closing name.
 use Rattle.std.proofs.Common.{◌≡◌, ℕ, ◌+◌, ◌<◌, ◌≤◌, Bool, true, false, if◌then◌else◌, List, [], ◌∷◌, ◌++◌, Some, None, Option, unwrap_or, refl, ap, ◌∙◌, arith, le_refl, append-nil}
 use Rattle.std.proofs.lemmas.List.Elements.{filter-append}
 use Rattle.std.specs.List.{AllByRecursion, filter}

@@ -75,7 +75,7 @@ abbrev mutual
   declared_in_procedures k (more p rest) =
       declared_in_procedure k p ++ declared_in_procedures (k + procedure_constructors p) rest
 
-  -- returns the fields that a procedure declares: those of its parameters, then those of its block
+  -- returns the fields that a procedure declares: its parameters' fields, then its block's fields
   pub declared_in_procedure : ℕ → Tree ℕ (item procedure) → List FieldName
   declared_in_procedure k (declares_procedure x fs b closing) =
       marked_sections k (formal_sections fs)

@@ -86,8 +86,8 @@ owned m s t = unowned t
 -- Return the identifiers of a type with their owners. `k` is the ordinal of the first ARRAY or RECORD of the part, and
 -- `r` the ordinal of the group's record.
 abbrev mutual
-  -- returns the identifiers of a written type: its name, or those of an array's length and elements, or of a record's
-  -- groups
+  -- returns the identifiers of a written type: its name, or the identifiers in an array's length and elements, or in a
+  -- record's groups
   pub owned_type : ℕ → Tree ℕ written_type → List (ℕ × Option ℕ)
   owned_type k (named_type x) = (x, None) ∷ []
   owned_type k (array_type e t) = unowned e ++ owned_type (suc k) t
@@ -359,7 +359,7 @@ abbrev mutual
   marked_procedures m k (more p rest) =
       marked_procedure m k p ++ marked_procedures m (k + procedure_constructors p) rest
 
-  -- returns the fields of a procedure: those of its parameters, then those of its block
+  -- returns the fields of a procedure: its parameters' fields, then its block's fields
   pub marked_procedure : {P : Type 0}
       → Meanings ℕ Shape P
       → ℕ

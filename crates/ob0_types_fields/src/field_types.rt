@@ -102,7 +102,7 @@ struct ConstructorWalk<'a, 't> {
 
 impl<'a, 't> ConstructorWalk<'a, 't> {
     /// Returns the type of the type, variable or parameter that the name at a token declares. Returns None if the name
-    /// declares none of these.
+    /// declares something else.
     fn declared_type(&self, token: usize) -> Option<TypeId>
         ensures { type_in self.now result
             ≡ type_declared ((meanings_in self.now).object_for token) }

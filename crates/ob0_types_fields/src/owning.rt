@@ -52,7 +52,7 @@ impl<'a, 't> Owning<'a, 't> {
     }
 
     /// Appends the field that a name selects from a value of type `base`, and returns the field's type. If there is no
-    /// such field, nothing is appended and None is returned.
+    /// such field, appends nothing and returns None.
     fn select(
         &self,
         found: &mut FieldTokens,
@@ -82,8 +82,7 @@ impl<'a, 't> Owning<'a, 't> {
     }
 
     /// Appends the field that a name selects from this record, and returns the field's type. The name is looked up only
-    /// once, for the type; the record gives the ordinal. If there is no such field, nothing is appended and None is
-    /// returned.
+    /// once, for the type; the record gives the ordinal. If there is no such field, appends nothing and returns None.
     fn select_in(
         &self,
         found: &mut FieldTokens,

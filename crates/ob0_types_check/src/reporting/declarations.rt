@@ -82,7 +82,8 @@ impl<'t> Reporter<'t> {
         Ok(())
     }
 
-    /// Reports the faults of a procedure. Its name is declared after its heading, so it is known in its own body.
+    /// Reports the faults of a procedure. The procedure's name is declared after the heading, so its own body can call
+    /// the procedure.
     #[cycle(blocks)]
     fn procedure(
         &mut self,

@@ -30,7 +30,7 @@ pub(crate) struct Operand {
     pub(crate) value: Option<Scalar>,
     /// True if the expression is only a name with selectors, and the name isn't a constant's.
     pub(crate) is_place: bool,
-    /// The index of the expression's first token, and that of its last token.
+    /// The index of the expression's first token. The next field is the index of its last token.
     pub(crate) first: usize,
     pub(crate) last: usize,
 }
@@ -103,8 +103,8 @@ pub(crate) fn same_type(a: TypeId, b: TypeId) -> bool
     a == b
 }
 
-/// Returns true if a type is accepted where the type `wanted` is required. An unknown type is accepted everywhere, and
-/// as a requirement it accepts every type.
+/// Returns true if a type is accepted at a place that requires the type `wanted`. An unknown type is accepted
+/// everywhere, and as a requirement it accepts every type.
 fn fits(of: TypeId, wanted: TypeId) -> bool
     ensures { result ≡ fits (known_types []) of wanted }
 {
