@@ -31,8 +31,8 @@ in_first p q r f z e = append_assoc p q r ∙ e
 in_later : {A : Type 0} (p q r f z : List A) → q ++ r ≡ f ++ z → (p ++ q) ++ r ≡ (p ++ f) ++ z
 in_later p q r f z e = append_assoc p q r ∙ (ap (λ l. p ++ l) e ∙ sym (append_assoc p f z))
 
--- If a block with its closing tokens and the rest is `f ++ z`, this is also true with the procedure's heading in front
--- of the block and of `f`.
+-- Puts a procedure's heading before its block. If the block, its closing tokens and the rest are `f ++ z`, with the
+-- heading they are the heading, `f` and `z`.
 in_heading : {A : Type 0} (x n semi : A) (fs b e r f z : List A) → b ++ (e ++ r) ≡ f ++ z → (x ∷ n ∷ (fs ++ (semi ∷ (b ++ e)))) ++ r ≡ (x ∷ n ∷ (fs ++ (semi ∷ f))) ++ z
 in_heading x n semi fs b e r f z is =
     ap (λ l. x ∷ n ∷ l)

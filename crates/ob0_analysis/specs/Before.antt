@@ -37,8 +37,8 @@ pub record AreKeptBefore (c : RescanInPlace) (procedures : Kept) (last : Option 
   pub alike : c.alike ≡ true → AreKept c.rescan.tokens.tokens procedures
   pub was : IfSome last (WasLast old)
 
--- holds if the places are the tokens at which this module has faults, and `front` is true exactly if the first token
--- starts at byte 0 or there is no token
+-- Holds if the places are the tokens at which this module has faults. `front` must be true exactly if the first token
+-- starts at byte 0 or there is no token.
 pub record ArePlacesOf
     (source : Scanned) (b : Bindings) (types : ModuleTypes) (places : FaultPlaces) : Type 0 where
   pub names : places.names.items ≡ map (tokens_of source.tokens) b.faults.items
@@ -98,9 +98,8 @@ pub record IsWrittenAsBefore
   pub alike : AreWrittenAlike old new
   pub parsed : IsParsed (parsed_by new tree)
 
--- Holds if the faults of an error are the lexical faults of a changed text, and the results for the returned old tokens
--- still belong to them: the parser's refusal, the kept procedures and the last module. An error for lack of memory
--- claims nothing.
+-- Holds if the faults of an error are the lexical faults of a changed text. The parser's refusal, the kept procedures
+-- and the last module must still belong to the returned old tokens. An error for lack of memory claims nothing.
 abbrev pub IsUnreadRefusal : List ℕ
     → ParseRefusal
     → Kept
@@ -115,8 +114,8 @@ IsUnreadRefusal text refusal procedures last (rescanned.Faults faults tokens) =
     × IfSome last (WasLast tokens)
 IsUnreadRefusal text refusal procedures last rescanned.Memory = Unit {0}
 
--- Holds if the faults of an error are the lexical faults of a changed text, and the results for the returned old tokens
--- still belong to them: the tree, the bindings and the results for types. An error for lack of memory claims nothing.
+-- Holds if the faults of an error are the lexical faults of a changed text. The tree, the bindings and the results for
+-- types must still belong to the returned old tokens. An error for lack of memory claims nothing.
 abbrev pub IsUnreadModule : List ℕ
     → ModuleTree
     → Bindings

@@ -4,8 +4,8 @@ ghost use Rattle.std.specs.Prelude.{◌≡◌, ◌+◌, ◌-◌, ◌<◌, ◌≤
 ghost use Rattle.ob0_scan.specs.Reused.{IsReplaced};
 ghost use Rattle.ob0_analysis.specs.Pieces.{IsCommonPiece};
 
-/// A difference between two texts: the `removed` bytes of the first text that start at byte `from`, and the number of
-/// bytes (`added`) that replace them in the second text.
+/// A difference between two texts. The first text has `removed` bytes starting at byte `from`. The second text has
+/// `added` bytes in their place.
 #[derive(Clone, Copy, Debug, Drop, PartialEq, Eq)]
 pub(crate) struct Difference {
     pub(crate) from: usize,

@@ -1,9 +1,9 @@
 //! The results for the last text that was a module, while the parser refuses the texts after it.
 //!
-//! Most keystrokes in an unfinished statement leave a text without a tree. Meanwhile the names and
-//! types of the earlier module are kept, as long as the difference from it lies in one body: after
-//! its first identifier, and before the END of its block. When the text has a tree again, only that
-//! body is bound and checked (`module_after`).
+//! Most keystrokes in an unfinished statement leave a text without a tree. Meanwhile the names and types of the earlier
+//! module are kept, as long as the difference from it lies in one body. The difference must lie after the body's first
+//! identifier and before the END of its block. When the text has a tree again, only that body is bound and checked
+//! (`module_after`).
 //!
 //! After the first text that the parser refuses, the whole body counts as different (`around`). The tree is dropped
 //! then, so the body's place couldn't be found later. Any further change must lie in the same body (`after`).

@@ -38,8 +38,8 @@ use ob0_types::laws::types_keep_tokens;
 use std::alloc::{AllocError, Global};
 use std::marker::Model;
 
-/// A text that has lexemes and no tree: its tokens, the parser's refusal, the procedures that the next parse can reuse,
-/// and the results for the last text that was a module. These results are kept only if that text differs in only one
+/// A text that has lexemes and no tree. It is kept as its tokens and the parser's refusal, with procedures that the
+/// next parse can reuse. `last` has the results for the last text that was a module, if that text differs in only one
 /// body.
 #[derive(Drop)]
 pub(crate) struct IllFormed {

@@ -1,5 +1,5 @@
--- Two functions for the names of fields give the same module if it is well-typed and they agree on each field that its
--- records declare.
+-- Two functions for the names of fields give the same module, if the module is well-typed and both agree on each field
+-- that its records declare.
 use Rattle.std.proofs.Common.{◌≡◌, ℕ, suc, ◌+◌, true, false, ◌&&◌, List, [], ◌∷◌, ◌++◌, map, if◌then◌else◌, nat_le, Some, None, Option, option_and_then, sym, refl, ap, ◌∙◌, subst}
 use Rattle.ob0_tree.specs.Tree.{Tree, addend, adds, arguments, array_type, assigns, branches, calls, compares, designator, else_branch, else_part, elsif_branch, elsif_part, empty, end, expression, factor, field, fields, further_argument, further_fields, further_name, further_statement, index, integer, items, listed, maybe, more, multiplier, multiplies, named_type, names, negation, no_arguments, no_fields, none, one, parenthesised, product, record_type, relates, repeat_loop, runs, selector, sequence, simple, some_arguments, some_fields, statement, sum, term, then_argument, then_fields, then_name, then_statement, while_loop, written_type}
 use Rattle.ob0_language_names.specs.DeclaredOnce.{group_fields, groups_fields}

@@ -22,8 +22,8 @@ binds m occurrence = option_and_then label_ordinal (slice_get (bindings m) occur
 
 -- Return the declarations of each block, with their ordinals. A procedure's parameters and locals are one block.
 abbrev mutual
-  -- returns the declarations of a block whose first declaration has ordinal `k`, then the declarations of the blocks
-  -- within it; `own` are the declarations of its procedure's parameters
+  -- Returns the declarations of a block, then the declarations of the blocks within it. The block's first declaration
+  -- has ordinal `k`. `own` are the declarations of its procedure's parameters.
   pub blocks_in : {N : Type 0} → ℕ → Scope N → Tree N block → List (Scope N)
   blocks_in k own (has_body (declares cs ts vs ps) statements) =
       body_scope k (has_body (declares cs ts vs ps) statements) own

@@ -43,8 +43,8 @@ LeavingOutKeepsModules =
     → WellTyped m
     → WellTyped (module_without d m) × SameRuns (module_without d m) m
 
--- A well-typed module remains well-typed and has the same runs if all uses of a constant are replaced by its literal
--- and its declaration is removed. The literal must have the constant's value at each use.
+-- A well-typed module remains well-typed and has the same runs after a constant is inlined everywhere. Its literal then
+-- replaces all its uses, and its declaration is removed. The literal must have the constant's value at each use.
 abbrev pub InliningEverywhereKeepsModules : Type 0
 InliningEverywhereKeepsModules =
     (m : Tree Name module_text) (d : ℕ) (w : Value) (v : Tree Name factor)

@@ -11,8 +11,8 @@ use Rattle.ob0_language_runs.specs.Runs.{Activation, Argument, ProcedureText, pa
 
 -- Hold if a value has a type.
 abbrev mutual
-  -- Holds if a value has this type. An array has the length of its type, a record comes from the RECORD of its type,
-  -- and the parts of both have the types of the type's parts.
+  -- Holds if a value has this type. An array has the length of its type, and a record comes from the RECORD of its
+  -- type. The parts of the value have the types of the type's parts.
   pub HasShape : Value → Shape → Type 0
   HasShape (number n) integer_shape = Unit {0}
   HasShape (truth b) boolean_shape = Unit {0}

@@ -57,8 +57,9 @@ pub fn leaving_out_keeps_modules()
     ensures { LeavingOutKeepsModules }
 {}
 
-/// Proves that a well-typed module remains well-typed and has the same runs if all uses of a constant are replaced by
-/// its literal and its declaration is removed. The literal must have the constant's value at each use.
+/// Proves that a well-typed module remains well-typed and has the same runs after a constant is inlined everywhere. Its
+/// literal then replaces all its uses, and its declaration is removed. The literal must have the constant's value at
+/// each use.
 pub fn inlining_everywhere_keeps_modules()
     ensures { InliningEverywhereKeepsModules }
 {}

@@ -257,8 +257,8 @@ with_fields (x ∷ xs) s rest = next_field_shape x s (with_fields xs s rest)
 unfoldable mutual
   unfolding constant_value
 
-  -- returns the type that a text denotes: the meaning of a name, or an array or a record within the limits, made by the
-  -- word with ordinal `k`
+  -- returns the type that a text denotes: a name's type, or an array or a record within the limits, whose word has
+  -- ordinal `k`
   pub denoted : {N V P : Type 0} → Meanings N V P → ℕ → Tree N written_type → Option Shape
   denoted meaning k (named_type x) = type_of_name (meaning.object_for x)
   denoted meaning k (array_type e t) = do

@@ -96,8 +96,8 @@ known_where_typed r report law is h = record {
   kept = λ typed. known_there (reported_module r ≡ []) report.known (HasDeclarations (named_tree_of r.module_read)) h.known (none_reported law r is typed);
 }
 
--- The result of checking a module is right (`IsChecked`) if its faults are the first 100 of the module, and its table
--- is present exactly if no fault of types is reported.
+-- The result of checking a module is right (`IsChecked`) if it has the first 100 faults of the module. The table must
+-- be present exactly if no fault of types is reported.
 pub checked_reported : (r : Resolution) (faults : List Fault) → ModulesFit → NoFaultInModules → IsResolution r → ((faults ≡ []) ↔ (faults_in r ≡ []))
     → (known : Option Tables) → MatchOption known (reported_module r ≡ [] → ⊥) (λ t. (reported_module r ≡ []) × HasDeclarations (named_tree_of r.module_read) t) → length faults ≤ 100 → AreFirstOf (faults_in r) faults
     → IsChecked (record { names = r; faults = faults; known = known })

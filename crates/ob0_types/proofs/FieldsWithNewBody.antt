@@ -1,5 +1,5 @@
--- The fields of a module in which the statements of one body were replaced are its old fields, moved, with the fields
--- of the new statements between them.
+-- If the statements of one body were replaced, the fields of the module are its old fields, moved, with the fields of
+-- the new statements between them.
 use Rattle.std.proofs.Common.{◌≡◌, ℕ, [], ◌++◌, map, Some, sym, ap, ◌∙◌}
 use Rattle.ob0_scan.specs.declared.tokens.SameTokens.{SameTokens}
 use Rattle.ob0_tree.specs.Parsed.{named_tree_of, tree_of}

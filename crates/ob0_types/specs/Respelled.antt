@@ -18,8 +18,8 @@ pub record AreTypesMoved (old new : Scanned) (types moved : ModuleTypes) : Type 
   pub faulty : moved.faulty ≡ types.faulty
   pub faults : moved.faults.items ≡ moved_faults old new types.faults.items
 
--- If the tokens of two texts have the same spellings and their names have the same bindings, the result of checking one
--- is the result of checking the other. The faults are moved to the same tokens.
+-- Suppose that the tokens of two texts have the same spellings and bindings. Then the result of checking one text is
+-- also right for the other. The faults are moved to the same tokens.
 abbrev pub TypesKeepTokens : Type 0
 TypesKeepTokens =
     (old new : Scanned) (tree : ModuleTree) (b c : Bindings) (types moved : ModuleTypes)

@@ -175,8 +175,8 @@ abbrev pub NamesPlaced : Numbering → ℕ → List ℕ → Type 0
 NamesPlaced n k [] = Unit {0}
 NamesPlaced n k (x ∷ xs) = IsPlaced n k x × NamesPlaced n (suc k) xs
 
--- Hold if a looked-up token is bound, if the scope gives its ordinal, and if the scope gives the ordinals of all
--- looked-up tokens of a part.
+-- `IsBound` holds if a looked-up token is bound. `IsSeen` holds if the scope gives the token's ordinal. `AreSeen` holds
+-- if the scope gives the ordinals of all looked-up tokens of a part.
 abbrev pub IsBound : Numbering → ℕ → Type 0
 IsBound n x = (k : ℕ) × (ordinal_in n.ordinals x ≡ Some k)
 

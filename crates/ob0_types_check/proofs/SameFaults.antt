@@ -1,6 +1,6 @@
--- If the tokens of a part are alike in two texts (`Alikeness`: the same spelling and binding), the part has the same
--- report in both, at the same tokens and with the same result. A state contains its text. So the two results are one
--- value viewed over each of the texts.
+-- The tokens of a part are alike in two texts if they have the same spelling and binding (`Alikeness`). The part then
+-- has the same report in both texts, at the same tokens and with the same result. A state contains its text. So the two
+-- results are one value viewed over each of the texts.
 use Rattle.std.proofs.Common.{◌≡◌, ℕ, Bool, true, false, not, ◌&&◌, List, [], ◌∷◌, Option, Some, None, length, nat_eq, option_and_then, pos, ◌+◌, refl, sym, ap, subst, if◌then◌else◌}
 use Rattle.std.specs.Prelude.{nat_lt}
 use Rattle.ob0_scan.specs.declared.fault.Code.{Code}

@@ -43,8 +43,9 @@ pub record Facts (T : Type 0) : Type 0 where
   pub object_for : ℕ → Option (Meaning T)
   pub only_constants : Bool
 
--- The result of checking an expression: its type, its value if it is constant and has no fault, whether it is a name
--- with selectors and may be a variable, and its first and last token.
+-- The result of checking an expression: its type, its value, and its first and last token. The value is missing if the
+-- expression isn't constant or has a fault. `is_place` is true if the expression is a name with selectors and may be a
+-- variable.
 pub record Operand (T : Type 0) : Type 0 where
   pub of : T
   pub value : Option Value

@@ -20,8 +20,8 @@ pub further_listed : (xs : List ℕ) → further_names (items_of then_name xs) �
 further_listed [] = refl
 further_listed (x ∷ xs) = ap (λ z. x ∷ z) (further_listed xs)
 
--- holds if the fields so far, followed by the fields of the remaining groups, are the fields of all groups, and the
--- number of words ARRAY and RECORD adds up in the same way
+-- Holds if the fields so far, followed by the fields of the remaining groups, are the fields of all groups. The words
+-- ARRAY and RECORD so far and in the remaining groups must be as many as in all groups.
 pub record OverGroups (r k : ℕ) (start : List FieldName) (xs : List Fields) (done : ℕ) (out : List FieldName) (next : ℕ) : Type 0 where
   pub so_far : out ++ marked_groups r next (items_of further_fields_of_group (drop done xs)) ≡ start ++ marked_groups r k (items_of further_fields_of_group xs)
   pub counted : next + groups_constructors (items_of further_fields_of_group (drop done xs)) ≡ k + groups_constructors (items_of further_fields_of_group xs)

@@ -108,8 +108,8 @@ field_place m k x =
 
 -- ---- laws
 
--- Renaming the field `f` of the record with ordinal `k` in a well-typed module puts the new name at the tokens of that
--- field and changes nothing else.
+-- Renaming the field `f` of the record with ordinal `k` in a well-typed module changes the names at the tokens of that
+-- field to `new`. Nothing else changes.
 abbrev pub RenamedAtTokens : Type 0
 RenamedAtTokens =
     (r : Resolution) (k : ℕ) (f new : Name)
@@ -120,8 +120,8 @@ RenamedAtTokens =
     then new
     else text_at r.module_read.source i) (value_at r.module_read.source) (tree_of r.module_read)
 
--- A record has another field with the new name exactly if the new name differs from the old one and a token declares a
--- field of the record with it.
+-- A record has another field with the new name exactly if two conditions hold: the new name differs from the old one,
+-- and a token declares a field of the record with the new name.
 abbrev pub DuplicateByToken : Type 0
 DuplicateByToken =
     (m : Parsed) (k : ℕ) (f new : Name)

@@ -27,8 +27,8 @@ pub fn renamed_at_tokens()
     ensures { RenamedAtTokens }
 {}
 
-/// Proves that a record has another field with a new name exactly if the name isn't the field's own and a token
-/// declares a field of the record with it.
+/// Proves when a record has another field with a new name. This is so exactly if the name isn't the field's own and a
+/// token declares a field of the record with that name.
 pub fn duplicate_by_token()
     ensures { DuplicateByToken }
 {}
