@@ -62,7 +62,7 @@ pub record HasTypesAt
   pub faulty : moved.faulty ≡ types.faulty
   pub faults : moved.faults.items ≡ map (fault_at source) places
 
--- holds if this tree, these bindings and these results for types belong to the text, and the places are those of its
+-- holds if this tree, these bindings and these results for types belong to the text, and the places belong to its
 -- faults
 pub record IsModuleOver
     (source : Scanned) (tree : ModuleTree) (b : Bindings) (types : ModuleTypes)

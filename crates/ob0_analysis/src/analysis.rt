@@ -87,8 +87,7 @@ pub struct Analysis {
     room: usize,
 }
 
-// Written by hand, because each crate that drops such a value would have to prove a derived one
-// again.
+// This impl is written by hand, because each crate that drops an `Analysis` would have to prove a derived impl again.
 impl Drop for Analysis {
     fn drop(self) {
         let Analysis {

@@ -21,7 +21,7 @@ use ob0_types::{ModuleTypes, types_with_new_body};
 use std::alloc::{AllocError, Global};
 
 /// Analyses a module with the help of the names and types of the last module. If the tokens that may differ still lie
-/// in the same body, only that body is bound and checked again. Otherwise everything is.
+/// in the same body, only that body is bound and checked again. Otherwise the whole module is bound and checked.
 pub(crate) fn module_after(
     alloc: Global,
     tokens: Tokens,

@@ -18,7 +18,7 @@ use Rattle.ob0_language_fields.proofs.NamesMeant.{named}
 use Rattle.ob0_language_field_laws.specs.FieldLaws.{KeepsApart}
 use Rattle.std.proofs.lemmas.Bool.{eqb-true}
 
--- Return a type, or the fields of a record, with all fields under other names.
+-- Returns a type, or the fields of a record, with all fields under other names.
 abbrev mutual
   pub shape_by : FieldNames → Shape → Shape
   shape_by l integer_shape = integer_shape
@@ -146,7 +146,7 @@ pub agree-by : (l : FieldNames) → KeepsApart l → (a b : Option Shape) → ag
 agree-by l apart (Some s) (Some t) = same_shape-by l apart s t
 agree-by l apart _ _ = refl
 
--- Return the meaning of a name in which the fields of types have other names.
+-- Returns the meaning of a name in which the fields of types have other names.
 
 abbrev pub formal_by : FieldNames → Formal → Formal
 formal_by l f = record { mode = f.mode; shape = shape_by l f.shape }

@@ -1,5 +1,5 @@
--- Names are declared once exactly if they are with the fields under other names. If each field gets its present name,
--- nothing changes.
+-- A module declares names once exactly if it does with its fields under other names. If each field gets its present
+-- name, nothing changes.
 use Rattle.std.proofs.Common.{◌≡◌, ℕ, suc, ◌+◌, not, ◌&&◌, ◌||◌, List, [], ◌∷◌, ◌++◌, map, Some, refl, ap, ◌∙◌, sym}
 use Rattle.std.proofs.lemmas.List.{map-append}
 use Rattle.ob0_tree.specs.Tree.{Tree, array_type, block, declares, declares_procedure, declares_type, declares_variable, end, fields, further_fields, further_name, further_section, has_body, is_module, item, items, listed, module_text, more, named_type, names, no_fields, procedure, record_type, some_fields, then_fields, then_name, then_section, type_name, variable, written_type}

@@ -24,7 +24,7 @@ tagged (Some k) x = suc k ∷ x
 pub tagged-apart : KeepsApart tagged
 tagged-apart k x y = ap (λ b. b && same_name x y) (eq-eqb (suc k) (suc k) refl)
 
--- Return a value, its elements or its members with all fields under other names.
+-- Returns a value, its elements or its members with all fields under other names.
 abbrev mutual
   pub value_by : FieldNames → Value → Value
   value_by l (number n) = number n

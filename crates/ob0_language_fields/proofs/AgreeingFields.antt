@@ -18,7 +18,7 @@ use Rattle.ob0_language_fields.specs.Fields.{FieldNames, selected_record, refiel
 use Rattle.ob0_language_fields.specs.Renaming.{RecordFields, records_in_group, records_in_groups, records_in_type}
 use Rattle.ob0_language_fields.proofs.NamesMeant.{named}
 
--- Hold if two functions for the names of fields agree: on the fields of a list, of the records of a text, and of the
+-- Holds if two functions for the names of fields agree: on the fields of a list, of the records of a text, and of the
 -- records in a type.
 abbrev pub NamesAgree : FieldNames → FieldNames → ℕ → List Name → Type 0
 NamesAgree p q k [] = Unit {0}
@@ -47,7 +47,8 @@ pub records-split : (p q : FieldNames) (xs ys : List RecordFields) → RecordsAg
 records-split p q [] ys h = (tt, h)
 records-split p q (x ∷ xs) ys h = let g = records-split p q xs ys h.1 in ((h.0, g.0), g.1)
 
--- If two such functions agree on a type, they agree on each field of that type and on the field's type.
+-- If two functions for the names of fields agree on a type, they agree on each field of that type and on the field's
+-- type.
 
 field-agrees : (p q : FieldNames) (k : ℕ) (fs : FieldShapes) (x : Name) (s : Shape) → FieldsAgree p q k fs → shape_of_field fs x ≡ Some s → (p (Some k) x ≡ q (Some k) x) × ShapeAgrees p q s
 field-agrees p q k no_field_shape x s agrees h = absurd (cc)
@@ -67,7 +68,7 @@ element_type-agrees : (p q : FieldNames) (s j u : Shape) → ShapeAgrees p q s �
 element_type-agrees p q (array_shape k n s) integer_shape u agrees h = (h, of_some (ShapeAgrees p q) h agrees)
 element_type-agrees p q _ _ u agrees h = absurd (cc)
 
--- holds if two such functions agree on the types in the meaning of a name
+-- holds if two functions for the names of fields agree on the types in the meaning of a name
 
 abbrev pub ObjectAgrees : FieldNames → FieldNames → Object Shape Signature → Type 0
 ObjectAgrees p q (a_type s) = ShapeAgrees p q s

@@ -65,7 +65,7 @@ pub inner-renamed : field_renamed (nested (codes "x") (codes "x")) 2 (codes "x")
 unfolding declare_first declare_typed typed_parameters
 inner-renamed = refl
 
--- An array has no fields, so renaming a field of it changes nothing.
+-- An array has no fields. So renaming a field of the type with an array's ordinal changes nothing.
 pub array-renamed : field_renamed (nested (codes "x") (codes "x")) 1 (codes "x") (codes "y") ≡ nested (codes "x") (codes "x")
 unfolding declare_first declare_typed typed_parameters
 array-renamed = refl

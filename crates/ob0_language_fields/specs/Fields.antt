@@ -74,9 +74,9 @@ refield l meaning s (else_branch a) = else_branch (refield l meaning None a)
 refield l meaning s (begins a) = begins (refield l meaning None a)
 refield l meaning s t = t
 
--- Return the text of a type with its declared fields under other names. `k` is the ordinal of the first ARRAY or RECORD
--- of the part, and `r` the ordinal of the group's record. The length of an array is a constant expression and has no
--- selectors.
+-- Returns the text of a type with its declared fields under other names. `k` is the ordinal of the first ARRAY or
+-- RECORD of the part, and `r` the ordinal of the group's record. The length of an array is a constant expression and
+-- has no selectors.
 abbrev mutual
   -- returns a written type with its fields under other names
   pub refield_type : FieldNames → ℕ → Tree Name written_type → Tree Name written_type
@@ -190,7 +190,7 @@ types_after_procedures env k end = env
 types_after_procedures env k (more p rest) =
     types_after_procedures (types_after_heading env k p) (k + procedure_constructors p) rest
 
--- Return a block with its fields under other names. `k` is the ordinal of the first ARRAY or RECORD of the part.
+-- Returns a block with its fields under other names. `k` is the ordinal of the first ARRAY or RECORD of the part.
 -- Constants have no fields.
 abbrev mutual
   -- returns a block with the fields of its types, variables, procedures and statements under other names

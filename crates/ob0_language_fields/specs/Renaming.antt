@@ -25,7 +25,7 @@ pub record RecordFields : Type 0 where
   pub ordinal : ℕ
   pub declared : List Name
 
--- Return the records in the text of a type. `k` is the ordinal of the first ARRAY or RECORD of the part.
+-- Returns the records in the text of a type. `k` is the ordinal of the first ARRAY or RECORD of the part.
 abbrev mutual
   -- returns the records in a written type; an outer record comes before the records within it
   pub records_in_type : ℕ → Tree Name written_type → List RecordFields
@@ -64,9 +64,9 @@ records_in_sections k end = []
 records_in_sections k (more (then_section f) fs) =
     records_in_type k (section_type f) ++ records_in_sections (k + constructors (section_type f)) fs
 
--- Return the records of a block or of its procedures. `k` is the ordinal of the first ARRAY or RECORD of the part.
+-- Returns the records of a block or of its procedures. `k` is the ordinal of the first ARRAY or RECORD of the part.
 abbrev mutual
-  -- returns the records of a block: those in its types, its variables and its procedures
+  -- returns the records in the types, the variables and the procedures of a block
   pub records_in_block : ℕ → Tree Name block → List RecordFields
   records_in_block k (has_body (declares cs ts vs ps) statements) =
       records_in_types k (section_types ts)
@@ -80,7 +80,7 @@ abbrev mutual
   records_in_procedures k (more p rest) =
       records_in_procedure k p ++ records_in_procedures (k + procedure_constructors p) rest
 
-  -- returns the records of a procedure: those in its parameters and its block
+  -- returns the records in the parameters and the block of a procedure
   pub records_in_procedure : ℕ → Tree Name (item procedure) → List RecordFields
   records_in_procedure k (declares_procedure x fs b closing) =
       records_in_sections k (formal_sections fs)

@@ -25,7 +25,7 @@ abbrev pub groups_fields : {N : Type 0} → Tree N (items further_fields) → Li
 groups_fields end = []
 groups_fields (more (then_fields g) rest) = group_fields g ++ groups_fields rest
 
--- Return true if each record in the text of a type declares a field once.
+-- Returns true if each record in the text of a type declares a field once.
 abbrev mutual
   -- returns true if each record in a written type declares a field once
   pub fields_once : Tree Name written_type → Bool
@@ -71,22 +71,23 @@ abbrev pub formals_once : Tree Name (items further_section) → Bool
 formals_once end = true
 formals_once (more (then_section s) fs) = fields_once (section_type s) && formals_once fs
 
--- Return true if each block declares a name once, each record declares a field once, and each closing name is its
+-- Returns true if each block declares a name once, each record declares a field once, and each closing name is its
 -- procedure's name. A procedure's parameters and locals are one block.
 abbrev mutual
-  -- returns true for such a block; `own` are the names of its procedure's parameters, which count as the block's names
+  -- Returns true if the block, its records and its procedures declare names once. `own` are the names of the parameters
+  -- of the block's procedure, which count as the block's names.
   pub block_once : List Name → Tree Name block → Bool
   block_once own (has_body (declares cs ts vs ps) statements) =
       are_distinct (own ++ block_names (has_body (declares cs ts vs ps) statements))
       && (types_once (section_types ts)
       && (variables_once (section_variables vs) && procedures_once ps))
 
-  -- returns true if all procedures of a block are such procedures
+  -- returns true if all procedures of a block declare names once and have the right closing names
   pub procedures_once : Tree Name (items procedure) → Bool
   procedures_once end = true
   procedures_once (more p rest) = procedure_once p && procedures_once rest
 
-  -- returns true for such a procedure, according to its closing name, its parameters' types and its block
+  -- returns true if a procedure has the right closing name, and its parameters' types and its block declare names once
   pub procedure_once : Tree Name (item procedure) → Bool
   procedure_once (declares_procedure x fs b closing) =
       same_name x closing

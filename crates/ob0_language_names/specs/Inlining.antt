@@ -115,21 +115,21 @@ abbrev pub section_without : ℕ → ℕ → Tree Name (maybe constants) → Tre
 section_without d k none = none
 section_without d k (one (declares_constants cs)) = one (declares_constants (without d k cs))
 
--- Return a block without the constant with ordinal `d`. The word CONST remains even if no constant is left.
+-- Returns a block without the constant with ordinal `d`. The word CONST remains even if no constant is left.
 abbrev mutual
-  -- returns a block without the constant; the block's first declaration has ordinal `k`
+  -- returns a block without the constant with ordinal `d`; the block's first declaration has ordinal `k`
   pub block_without : ℕ → ℕ → Tree Name block → Tree Name block
   block_without d k (has_body (declares cs ts vs ps) statements) =
       has_body (declares (section_without d k cs) ts vs (procedures_without d
       (first_procedure k (has_body (declares cs ts vs ps) statements)) ps)) statements
 
-  -- returns procedures without the constant; the first procedure has ordinal `k`
+  -- returns procedures without the constant with ordinal `d`; the first procedure has ordinal `k`
   pub procedures_without : ℕ → ℕ → Tree Name (items procedure) → Tree Name (items procedure)
   procedures_without d k end = end
   procedures_without d k (more p rest) =
       more (procedure_without d (suc k) p) (procedures_without d (after_procedure (suc k) p) rest)
 
-  -- returns a procedure without the constant; the procedure has ordinal `k - 1`
+  -- returns a procedure without the constant with ordinal `d`; the procedure has ordinal `k - 1`
   pub procedure_without : ℕ → ℕ → Tree Name (item procedure) → Tree Name (item procedure)
   procedure_without d k (declares_procedure x fs b closing) =
       declares_procedure x fs

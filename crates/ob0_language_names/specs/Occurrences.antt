@@ -20,7 +20,7 @@ label_ordinal (as_written x) = None
 abbrev pub binds : Tree Name module_text → ℕ → Option ℕ
 binds m occurrence = option_and_then label_ordinal (slice_get (bindings m) occurrence)
 
--- Return the declarations of each block, with their ordinals. A procedure's parameters and locals are one block.
+-- Returns the declarations of each block, with their ordinals. A procedure's parameters and locals are one block.
 abbrev mutual
   -- Returns the declarations of a block, then the declarations of the blocks within it. The block's first declaration
   -- has ordinal `k`. `own` are the declarations of its procedure's parameters.

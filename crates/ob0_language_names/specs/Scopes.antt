@@ -37,7 +37,7 @@ abbrev pub after_names : {N : Type 0} → ℕ → List N → ℕ
 after_names k [] = k
 after_names k (x ∷ xs) = after_names (suc k) xs
 
--- Return the first ordinal after a block, after procedures, or after a procedure.
+-- Returns the first ordinal after a block, after procedures, or after a procedure.
 abbrev mutual
   -- returns the first ordinal after a block whose first declaration has ordinal `k`
   pub after_block : {N : Type 0} → ℕ → Tree N block → ℕ
@@ -251,7 +251,7 @@ abbrev pub body_scope : {N : Type 0} → ℕ → Tree N block → Scope N → Sc
 body_scope k b scope =
     declare_procedure_names (first_procedure k b) (block_procedures b) (procedures_scope k b scope)
 
--- Return a block, its procedures or one procedure with labels. `scope` is the scope around them.
+-- Returns a block, its procedures or one procedure with labels. `scope` is the scope around them.
 abbrev mutual
   -- returns a block with labels; its first declaration has ordinal `k`
   pub relabel_block : {N M : Type 0}
@@ -330,6 +330,7 @@ abbrev pub same_ordinal : Option ℕ → ℕ → Bool
 same_ordinal None k = false
 same_ordinal (Some j) k = j == k
 
--- Returns the module in which the declaration `d` is renamed to `new`, with each name bound to it and its closing name.
+-- Returns the module in which the declaration `d` is renamed to `new`, including each name that is bound to `d` and the
+-- closing name of a procedure `d`.
 abbrev pub renamed : Tree Name module_text → ℕ → Name → Tree Name module_text
 renamed m d new = relabelled as_names (λ ordinal x. if same_ordinal ordinal d then new else x) m

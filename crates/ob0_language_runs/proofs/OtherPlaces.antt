@@ -30,7 +30,8 @@ get-set_other (y ∷ xs) zero zero new apart = absurd (apart refl)
 get-set_other (y ∷ xs) (suc n) (suc k) new apart = get-set_other xs n k new (λ e. apart (ap suc e))
 get-set_other _ _ _ new apart = refl
 
--- Hold if the list has no repeats and gives the indexes of a store's variables in a larger store.
+-- `NotAmong` holds if an index isn't in the list. `StoreIs` holds if the list has no repeats and gives the indexes of a
+-- store's variables in a larger store.
 
 abbrev pub NotAmong : ℕ → List ℕ → Type 0
 NotAmong r [] = Unit {0}
@@ -98,7 +99,7 @@ variables-cut (r ∷ at) others (v ∷ old) [] before after h g = absurd g
 variables-cut (r ∷ at) others (v ∷ old) (w ∷ new) before after h g = (g.0, not-among-cut r at others g.1, variables-cut at others old new before after h.2 g.2)
 variables-cut _ others _ new before after h g = absurd h
 
--- Hold if two places, or two meanings of a name, are the same except for the index of the variable.
+-- Holds if two places, or two meanings of a name, are the same except for the index of the variable.
 
 pub record PlaceIs (at : List ℕ) (p q : Place) : Type 0 where
   pub variable_is : slice_get at p.variable ≡ Some q.variable

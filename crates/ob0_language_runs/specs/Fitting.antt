@@ -9,7 +9,7 @@ use Rattle.ob0_language_types.specs.WellTyped.{Mode, Signature, TypeEnvironment,
 use Rattle.ob0_language_values.specs.Values.{FieldShapes, Members, Place, Shape, Step, Store, Value, Values, array_shape, at_field, at_index, boolean_shape, count_values, elements, integer_shape, members, next_field_shape, next_member, next_value, no_field_shape, no_member, no_value, number, record_shape, truth}
 use Rattle.ob0_language_runs.specs.Runs.{Activation, Argument, ProcedureText, passing, place_argument, value_argument}
 
--- Hold if a value has a type.
+-- Holds if a value has a type.
 abbrev mutual
   -- Holds if a value has this type. An array has the length of its type, and a record comes from the RECORD of its
   -- type. The parts of the value have the types of the type's parts.

@@ -140,7 +140,7 @@ turns_until (suc t) condition turn s =
     continue_with (turn s)
     (λ s'. use_in s' (condition s') (λ v. choose s' v running (turns_until t condition turn)))
 
--- Execute a statement. An assignment finds its place, then evaluates its right side, then stores a copy.
+-- Executes a statement. An assignment finds its place, then evaluates its right side, then stores a copy.
 unfoldable mutual
   unfolding evaluate designate evaluate_arguments
 

@@ -23,7 +23,7 @@ abbrev pub for_some : {A B : Type 0} → Option A → (A → List B) → List B
 for_some None list = []
 for_some (Some a) list = list a
 
--- Return the bindings of a block: its constants, types, variables and procedures.
+-- Returns the bindings of a block: its constants, types, variables and procedures.
 unfoldable mutual
   unfolding declare_procedure typed_parameters
 

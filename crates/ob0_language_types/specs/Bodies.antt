@@ -18,7 +18,7 @@ pub record BodyAt (N : Type 0) : Type 0 where
   pub environment : TypeEnvironment N
   pub statements : Tree N (maybe body)
 
--- Return the bodies of a block. The body of a block comes after the bodies of its procedures.
+-- Returns the bodies of a block. The body of a block comes after the bodies of its procedures.
 unfoldable mutual
   unfolding typed_parameters
 
@@ -64,7 +64,7 @@ unfoldable mutual
 abbrev pub module_bodies : {N : Type 0} → Naming N → Tree N module_text → List (BodyAt N)
 module_bodies naming m = block_bodies naming (outermost naming) 0 (module_block m)
 
--- Hold if `Q` holds for each environment in which procedures or statements of a block, or of a block within it, are
+-- Holds if `Q` holds for each environment in which procedures or statements of a block, or of a block within it, are
 -- checked.
 abbrev mutual
   -- holds for a block if `Q` holds after its constants, types and variables, and in its procedures

@@ -42,11 +42,11 @@ value_among known d k (more (declares_constant x e) cs) = do
   v ← constant_value (meanings as_names known) e
   if k == d then Some v else value_among ((x, a_constant v) ∷ known) d (suc k) cs
 
--- Return the value of the constant with ordinal `d`, or None if no CONST section declares `d`.
+-- Returns the value of the constant with ordinal `d`, or None if no CONST section declares `d`.
 unfoldable mutual
   unfolding value_among declare_constants
 
-  -- returns the value of a constant in a block whose first declaration has ordinal `k`
+  -- returns the value of the constant with ordinal `d` in a block whose first declaration has ordinal `k`
   pub value_in_block : Known → ℕ → ℕ → Tree Name block → Option Value
   value_in_block known d k (has_body (declares cs ts vs ps) statements) =
       if nat_lt d (first_type k (has_body (declares cs ts vs ps) statements))
@@ -57,7 +57,8 @@ unfoldable mutual
       inner) d (first_procedure k (has_body (declares cs ts vs ps) statements)) ps)
       (declare_constants as_names known (section_constants cs))
 
-  -- returns the value of a constant in the procedure that declares it; the first procedure has ordinal `k`
+  -- returns the value of the constant with ordinal `d` in the procedure that declares it; the first procedure has
+  -- ordinal `k`
   pub value_in_procedures : Known → ℕ → ℕ → Tree Name (items procedure) → Option Value
   value_in_procedures known d k end = None
   value_in_procedures known d k (more p rest) =
@@ -66,8 +67,8 @@ unfoldable mutual
       else value_in_procedures ((procedure_name p, no_constant) ∷ known) d
       (after_procedure (suc k) p) rest
 
-  -- returns the value of a constant in a procedure's block; its parameters, which aren't constants, have ordinals
-  -- starting at `k`
+  -- returns the value of the constant with ordinal `d` in a procedure's block; the parameters, which aren't constants,
+  -- have ordinals starting at `k`
   pub value_in_procedure : Known → ℕ → ℕ → Tree Name (item procedure) → Option Value
   value_in_procedure known d k (declares_procedure x fs b closing) =
       if nat_lt d (after_names k (formal_names (formal_sections fs))) then None

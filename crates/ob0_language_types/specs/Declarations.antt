@@ -64,7 +64,7 @@ formals_constructors end = 0
 formals_constructors (more (then_section f) fs) =
     constructors (section_type f) + formals_constructors fs
 
--- Return the number of words ARRAY and RECORD in a block, including its procedures.
+-- Returns the number of words ARRAY and RECORD in a block, including its procedures.
 abbrev mutual
   -- returns the number of words ARRAY and RECORD in a block: in its types, variables and procedures
   pub block_constructors : {N : Type 0} → Tree N block → ℕ

@@ -40,7 +40,7 @@ object_value store (Some (a_constant v)) = gives v
 object_value store (Some (a_variable p)) = or_stuck (read_place store p)
 object_value store _ = ends Stuck
 
--- Return the value of an expression, which is evaluated from left to right.
+-- Returns the value of an expression, which is evaluated from left to right.
 unfoldable mutual
   -- evaluates an expression: one simple expression, or a relation between two
   pub evaluate : {N P : Type 0} → Meanings N Place P → Store → Tree N expression → Outcome Value

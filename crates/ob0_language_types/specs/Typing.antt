@@ -83,7 +83,7 @@ abbrev pub field_type : Shape → Name → Option Shape
 field_type (record_shape k fs) x = shape_of_field fs x
 field_type _ x = None
 
--- Return the type of an expression, or None if it has an error.
+-- Returns the type of an expression, or None if it has an error.
 unfoldable mutual
   -- returns the type of an expression: of one simple expression, or of a relation between two
   pub type_of : {N P : Type 0} → Meanings N Shape P → Tree N expression → Option Shape
@@ -190,7 +190,7 @@ abbrev pub array_length : Value → Option ℕ
 array_length (number (pos (suc n))) = if nat_lt n max_scalars then Some (suc n) else None
 array_length _ = None
 
--- Return the number of scalars in a type. An empty record counts as one.
+-- Returns the number of scalars in a type. An empty record counts as one.
 abbrev mutual
   -- returns the number of scalars in a type; an array has the scalars of all its elements, a record the scalars of its
   -- fields, at least one
@@ -205,7 +205,8 @@ abbrev mutual
   field_scalars no_field_shape = 0
   field_scalars (next_field_shape x s rest) = scalars s + field_scalars rest
 
--- Return the depth to which arrays and records are nested in a type, including those that named types denote.
+-- Returns the depth to which arrays and records are nested in a type. Arrays and records that named types denote also
+-- count.
 abbrev mutual
   -- returns the depth of a type; an array or a record is one level deeper than its deepest part
   pub depth : Shape → ℕ
@@ -224,20 +225,20 @@ abbrev pub within_limits : Shape → Option Shape
 within_limits s =
     if nat_le (scalars s) max_scalars && nat_le (depth s) max_depth then Some s else None
 
--- Return the number of words ARRAY and RECORD in a type's text.
+-- Returns the number of words ARRAY and RECORD in a type's text.
 abbrev mutual
-  -- returns the number in a type; a name counts 0, even if it means an array or a record
+  -- returns the number of words ARRAY and RECORD in a type; a name counts 0, even if it means an array or a record
   pub constructors : {N : Type 0} → Tree N written_type → ℕ
   constructors (named_type x) = 0
   constructors (array_type e t) = suc (constructors t)
   constructors (record_type g rest) = suc (group_constructors g + groups_constructors rest)
 
-  -- returns the number in a group of fields, whose type is written once for all its names
+  -- returns the number of words ARRAY and RECORD in a group of fields, whose type is written once for all its names
   pub group_constructors : {N : Type 0} → Tree N fields → ℕ
   group_constructors no_fields = 0
   group_constructors (some_fields ns t) = constructors t
 
-  -- returns the number in further groups of fields
+  -- returns the number of words ARRAY and RECORD in further groups of fields
   pub groups_constructors : {N : Type 0} → Tree N (items further_fields) → ℕ
   groups_constructors end = 0
   groups_constructors (more (then_fields g) rest) = group_constructors g + groups_constructors rest
@@ -252,7 +253,7 @@ abbrev pub with_fields : List Name → Shape → FieldShapes → FieldShapes
 with_fields [] s rest = rest
 with_fields (x ∷ xs) s rest = next_field_shape x s (with_fields xs s rest)
 
--- Return the type that a type's text denotes. Each word ARRAY and RECORD makes a new type, and `k` is the ordinal of
+-- Returns the type that a type's text denotes. Each word ARRAY and RECORD makes a new type, and `k` is the ordinal of
 -- the first one.
 unfoldable mutual
   unfolding constant_value

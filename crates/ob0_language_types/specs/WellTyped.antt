@@ -12,7 +12,7 @@ use Rattle.ob0_language_types.specs.Expressions.{Meanings, Object, a_procedure, 
 use Rattle.ob0_language_types.specs.Typing.{constructors, denoted, lone_designator, type_at, type_of, ◌>>=◌}
 use Rattle.ob0_language_values.specs.Values.{FieldShapes, Shape, array_shape, boolean_shape, integer_shape, next_field_shape, no_field_shape, record_shape}
 
--- Return true if two types are equal.
+-- Returns true if two types are equal.
 abbrev mutual
   -- returns true if both are the same scalar type, or both come from the same ARRAY or RECORD of the text and have
   -- equal parts
@@ -120,8 +120,8 @@ unfoldable pub condition_fits : {N P : Type 0} → Meanings N Shape P → Tree N
 unfolding type_of
 condition_fits meaning e = agree (Some boolean_shape) (type_of meaning e)
 
--- Return true if a statement is well-typed: both sides of an assignment have one type, the arguments of a call fit, and
--- conditions are BOOLEAN.
+-- Returns true if a statement is well-typed: both sides of an assignment have one type, the arguments of a call fit,
+-- and conditions are BOOLEAN.
 unfoldable mutual
   unfolding condition_fits call_fits
 
@@ -233,7 +233,7 @@ abbrev pub some_and : {A : Type 0} → Option A → (A → Bool) → Bool
 some_and None test = false
 some_and (Some a) test = test a
 
--- Return true if a block is well-typed: its declarations, then each procedure in the environment of the earlier ones,
+-- Returns true if a block is well-typed: its declarations, then each procedure in the environment of the earlier ones,
 -- then its statements in the whole environment.
 unfoldable mutual
   unfolding declare_first declare_typed typed_parameters body_fits

@@ -219,7 +219,7 @@ abbrev pub copies : ℕ → Value → Values
 copies zero v = no_value
 copies (suc n) v = next_value v (copies n v)
 
--- Return the first value of a variable: 0 or FALSE in each of its parts.
+-- Returns the first value of a variable: 0 or FALSE in each of its parts.
 abbrev mutual
   -- returns the first value of a variable of this type
   pub initial : Shape → Value

@@ -10,7 +10,7 @@ use Rattle.ob0_language_names.specs.Parts.{formal_names, formal_sections, module
 use Rattle.ob0_scope_table.specs.Resolution.{declaring_only, token_declaring}
 use Rattle.ob0_refs.specs.Declarations.{names_after}
 
--- Return the headings of procedures in text order: each name with the names of its formal parameters.
+-- Returns the headings of procedures in text order: each name with the names of its formal parameters.
 abbrev mutual
   -- returns the headings in a block
   pub block_headings : Tree ℕ block → List (ℕ × List ℕ)

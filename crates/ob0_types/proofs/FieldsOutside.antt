@@ -26,7 +26,7 @@ module _ {Q : Type 0} (m n : Meanings ℕ Shape Q) where
   alone : (statements : Tree ℕ (maybe body)) → AreAround (marked_tree m statements) (marked_tree n statements) statements
   alone statements = record { before = []; after = []; first = sym (append-nil (marked_tree m statements)); second = sym (append-nil (marked_tree n statements)) }
 
-  -- Two such lists still differ only in the fields of the statements if both get the same prefix.
+  -- Two lists that differ only in the fields of the statements still do if both get the same prefix.
   in_front : (xs ys front : List FieldName) (statements : Tree ℕ (maybe body)) → AreAround xs ys statements → AreAround (front ++ xs) (front ++ ys) statements
   in_front xs ys front statements h = record {
     before = front ++ h.before;
@@ -39,7 +39,7 @@ module _ {Q : Type 0} (m n : Meanings ℕ Shape Q) where
   followed_by_one zs before inner after back e =
       ap (λ l. l ++ back) e ∙ (append_assoc before (inner ++ after) back ∙ ap (λ l. before ++ l) (append_assoc inner after back))
 
-  -- Two such lists still differ only in the fields of the statements if both get the same suffix.
+  -- Two lists that differ only in the fields of the statements still do if both get the same suffix.
   followed_by : (xs ys back : List FieldName) (statements : Tree ℕ (maybe body)) → AreAround xs ys statements → AreAround (xs ++ back) (ys ++ back) statements
   followed_by xs ys back statements h = record {
     before = h.before;

@@ -173,7 +173,7 @@ module _ (r : Resolution) (types : ModuleTypes) (s : SameTokens) (w : WereTypesE
   pub found_there : Leads (body_in_module s.prefix (tree_of r.module_read)) (closing_at w.way (tree_of r.module_read)) (body_at w.way (tree_of r.module_read))
   found_there = subst (λ way. Leads (body_in_module s.prefix (tree_of r.module_read)) (closing_at way (tree_of r.module_read)) (body_at way (tree_of r.module_read))) w.replaced.new_way (body_leads s.prefix (tree_of r.module_read))
 
-  -- Without the statements of that body, the new module has the same spelling as the old one.
+  -- Without the statements of the replaced body, the new module has the same spelling as the old one.
   named_alike : named r.module_read.source (without w.way (tree_of r.module_read)) ≡ without w.way (named_tree_of w.old.module_read)
   named_alike =
       let before = w.old.module_read in

@@ -38,11 +38,11 @@ abbrev mutual
       then body_among low own ps statements
       else body_in_procedure low p
 
-  -- returns the body of the procedure, or the body of a procedure in it
+  -- returns the body of the procedure, or the body of a procedure within this procedure
   pub body_in_procedure : ℕ → Tree ℕ (item procedure) → OneBody
   body_in_procedure low (declares_procedure x fs b closing) = body_in_block low closing b
 
--- returns the body of the module, or the body of a procedure in it
+-- returns the body of the module, or the body of a procedure within the module
 abbrev pub body_in_module : ℕ → Tree ℕ module_text → OneBody
 body_in_module low (is_module x b closing) = body_in_block low closing b
 

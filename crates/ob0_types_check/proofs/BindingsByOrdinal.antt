@@ -21,7 +21,7 @@ use Rattle.ob0_language_types.proofs.Literals.{some_inverse}
 use Rattle.ob0_language_types.proofs.TypesByOrdinal.{TypeNoted, TypedBelow, TypedBelow-weaken, TypedWithin, bind_typed-by_name, bind_typed-by_ordinal, block_fits-agrees, declarations_typed, label_typed, label_typed-formals, noted_parameters, noted_parameters-within, parameters_typed, typed_by_name, typed_by_ordinal, typed_names, typed_outermost, typed_scope}
 use Rattle.ob0_types_check.proofs.BoundModules.{held}
 
--- holds if the ordinals of the bindings are those from `k` up to `n`, without `n`, each once and the latest first
+-- holds if the bindings have the ordinals from `k` up to `n`, without `n`, each once and the latest first
 abbrev pub InOrder : ℕ → ℕ → TypeNoted Name → Type 0
 InOrder k n [] = n ≡ k
 InOrder k n (b ∷ noted) = (n ≡ suc b.ordinal) × InOrder k b.ordinal noted
@@ -38,7 +38,8 @@ by_ordinal-append : (later first : TypeNoted Name) → typed_by_ordinal (later +
 by_ordinal-append [] first = refl
 by_ordinal-append (b ∷ later) first = λ i. (declared b.ordinal, b.object) ∷ by_ordinal-append later first i
 
--- bindings of names and bindings of labels that come from one list, whose ordinals are those from `k` up to `n`
+-- bindings of names and bindings of labels that come from one list, which has the ordinals from `k` up to `n`, without
+-- `n`
 pub record Ordered (k n : ℕ) (names : TypeEnvironment Name) (labels : TypeEnvironment Label) : Type 0 where
   pub noted : TypeNoted Name
   pub by_name : names ≡ typed_by_name noted

@@ -17,7 +17,7 @@ pub each-of-both : {A : Type 0} (P : A → Type 0) (xs ys : List A) → Each P x
 each-of-both P [] ys p q = q
 each-of-both P (x ∷ xs) ys p q = (p.0, each-of-both P xs ys p.1 q)
 
--- A name has a meaning if a look-up that gives nothing for an unbound name gives a result for it.
+-- A name has a meaning if a look-up gives a result for the name, and would give nothing for an unbound name.
 name-of : {V Q B : Type 0} (f : Option (Object V Q) → Option B) → f None ≡ None → (o : Option (Object V Q)) (b : B) → f o ≡ Some b → (x : Object V Q) × (o ≡ Some x)
 name-of f nothing None b h = absurd (some-none b (sym h ∙ nothing))
 name-of f nothing (Some x) b h = (x, refl)

@@ -43,7 +43,7 @@ pub record Denotes (n : ℕ) (p : SoFar) (before : List Shape) (k l : ℕ) (give
   pub later : Later n p u.following before after
   pub known : shape_in after u.of ≡ Some shape
 
--- A name of a type denotes that type's shape if no fault is reported for it.
+-- A name of a type denotes that type's shape if no fault is reported for the name.
 named_denotes : (n : ℕ) (w : SoFar) (p : SoFar) (before : List Shape) (k l : ℕ) → l ≡ k → (token : ℕ) (m : Option (Meaning TypeId)) (o : Option (meant.Object Shape Signature)) → TableAgrees p.made before → MeansAlike (shape_in before) m o → (type_meant (facts_at w false) token m).faults ≡ []
     → Denotes n p before k l (type_of_name o) (record { of = (type_meant (facts_at w false) token m).known; following = p })
 named_denotes n w p before k l last token None o table alike e = absurd alike
@@ -83,7 +83,7 @@ made_denotes n p q before mid k l word ordinal parts size s here number own late
       };
     }
 
--- An array denotes a shape if its elements' type does and no fault is reported for it.
+-- An array denotes a shape if the type of its elements denotes one and no fault is reported for the array.
 array_denotes : (n : ℕ) (p : SoFar) (before : List Shape) (k l ordinal count : ℕ) (o : Operand TypeId) (given : Option Shape) (u : TypedAfter) → ordinal ≡ k → Denotes n p before (suc k) l given u → (array_made ordinal o (Some count) u).faults ≡ []
     → Denotes n p before k l (option_and_then (λ s. within_limits (array_shape k count s)) given) (array_made ordinal o (Some count) u).known
 array_denotes n p before k l ordinal count o given u here d none =
@@ -169,7 +169,7 @@ both_gather n p before k m l first given g h others one other = record {
   };
 }
 
--- A record denotes a shape if its fields do and no fault is reported for it.
+-- A record denotes a shape if its fields have shapes and no fault is reported for the record.
 record_denotes : (n : ℕ) (p : SoFar) (before : List Shape) (k l word ordinal : ℕ) (given : Option FieldShapes) (g : Gathered) → ordinal ≡ k → GroupsGather n p before (suc k) l no_field_shape given g → (record_made word ordinal g).faults ≡ []
     → Denotes n p before k l (option_and_then (λ fs. within_limits (record_shape k fs)) given) (record_made word ordinal g).known
 record_denotes n p before k l word ordinal given g here h none =

@@ -37,7 +37,7 @@ some-none a h = cc
 pub some-same : {A : Type 0} (a b : A) → Some a ≡ Some b → a ≡ b
 some-same a b h = ap (λ o. elim o [ Some x ↦ x | None ↦ a ]) h
 
--- If the first step gives a value, both steps give the result of the second step for it.
+-- If the first step gives a value, both steps give the result of the second step for that value.
 pub goes-on : {A B : Type 0} (next : A → Option B) (o : Option A) (a : A) (r : Option B) → o ≡ Some a → next a ≡ r → option_and_then next o ≡ r
 goes-on next o a r e h = ap (option_and_then next) e ∙ h
 

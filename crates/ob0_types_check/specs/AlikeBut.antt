@@ -15,7 +15,8 @@ Unless false A = A
 -- Holds if each token has the property `P`, except in the statements of the blocks whose closing names pass the test
 -- `left_out`. The number is the token of the block's own closing name.
 abbrev mutual
-  -- holds for a block if each of its tokens has the property, except in those statements
+  -- holds for a block if `P` holds for each of its tokens, except in statements of blocks whose closing names pass
+  -- `left_out`
   pub BlockBut : (ℕ → Type 0) → (ℕ → Bool) → ℕ → Tree ℕ block → Type 0
   BlockBut P left_out own (has_body (declares cs ts vs ps) statements) =
       EachToken P cs
@@ -24,18 +25,21 @@ abbrev mutual
       × ProceduresBut P left_out ps
       × Unless (left_out own) (EachToken P statements)
 
-  -- holds for procedures if each of their tokens has the property, except in those statements
+  -- holds for procedures if `P` holds for each of their tokens, except in statements of blocks whose closing names pass
+  -- `left_out`
   pub ProceduresBut : (ℕ → Type 0) → (ℕ → Bool) → Tree ℕ (items procedure) → Type 0
   ProceduresBut P left_out end = Unit {0}
   ProceduresBut P left_out (more p rest) =
       ProcedureBut P left_out p × ProceduresBut P left_out rest
 
-  -- holds for a procedure if each of its tokens has the property, except in those statements
+  -- holds for a procedure if `P` holds for each of its tokens, except in statements of blocks whose closing names pass
+  -- `left_out`
   pub ProcedureBut : (ℕ → Type 0) → (ℕ → Bool) → Tree ℕ (item procedure) → Type 0
   ProcedureBut P left_out (declares_procedure x fs b closing) =
       P x × EachToken P fs × BlockBut P left_out closing b × P closing
 
--- holds for a module if each of its tokens has the property, except in those statements
+-- holds for a module if `P` holds for each of its tokens, except in statements of blocks whose closing names pass
+-- `left_out`
 abbrev pub ModuleBut : (ℕ → Type 0) → (ℕ → Bool) → Tree ℕ module_text → Type 0
 ModuleBut P left_out (is_module x b closing) = P x × BlockBut P left_out closing b × P closing
 

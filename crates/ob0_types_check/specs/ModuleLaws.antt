@@ -16,7 +16,7 @@ use Rattle.ob0_types_check.specs.Agreement.{DeclarationAgrees, TableAgrees, is_s
 use Rattle.ob0_types_check.specs.DeclarationFaults.{reported_block, reported_module}
 use Rattle.ob0_types_check.specs.SoFar.{SoFar, at_first}
 
--- A module fits if no fault of types and no undeclared name is reported for it.
+-- A module fits if no fault of types and no undeclared name is reported.
 abbrev pub ModulesFit : Type 0
 ModulesFit =
     (r : Resolution)

@@ -103,8 +103,8 @@ pub record WereFaulty (wanted : ℕ → Bool) (r : Resolution) : Type 0 where
   pub faulty : AllPass wanted (faulty_bodies old)
   pub alike : AreAlikeBut wanted old r
 
--- If the wanted bodies include those that had faults or changed, walking only them gives the same report as walking
--- all.
+-- Walking only the wanted bodies gives the same report as walking all bodies, if the wanted ones include every body
+-- that had a fault or changed.
 abbrev pub SomeBodiesReported : Type 0
 SomeBodiesReported =
     (wanted : ℕ → Bool) (r : Resolution)

@@ -88,7 +88,7 @@ record_word (more (then_fields g) rest) = word_before g (record_word rest)
 abbrev pub record_made : ℕ → ℕ → Gathered → Reported TypedAfter
 record_made word ordinal g = make g.following word ordinal (of_fields g.fields) (record_size g.size)
 
--- Return the faults of a type that is inside `around` words ARRAY and RECORD.
+-- Returns the faults of a type that is inside `around` words ARRAY and RECORD.
 unfoldable mutual
   unfolding reported_expression
 

@@ -78,7 +78,7 @@ module _ (text : ℕ → Name) (value : ℕ → ℕ) where
     abbrev GroupsHit : ℕ → ℕ → Tree ℕ (items further_fields) → Type 0
     GroupsHit o k gs = list_any hit (marked_groups o k gs) ≡ (((o == r) && list_any another (groups_fields (mapped text value gs))) || list_any in_record (records_in_groups k (mapped text value gs)))
 
-    -- The tests for a first group and its inner records can be joined with those for the later groups.
+    -- The tests for a first group and its inner records can be joined with the tests for the later groups.
     two-hit : (o k : ℕ) (g : Tree ℕ fields) (rest : Tree ℕ (items further_fields)) → GroupHit o k g → GroupsHit o (k + group_constructors g) rest
         → list_any hit (marked_group o k g ++ marked_groups o (k + group_constructors g) rest)
         ≡ (((o == r) && list_any another (group_fields (mapped text value g) ++ groups_fields (mapped text value rest)))

@@ -1,4 +1,5 @@
--- A record has a type for a name exactly if it has a position for it. The name then selects a field of the record.
+-- A record has a type for a name exactly if it has a position for the name. The name then selects a field of the
+-- record.
 use Rattle.std.proofs.Common.{◌≡◌, ℕ, suc, Bool, true, false, if◌then◌else◌, Option, Some, None, option_map, refl, sym, ap, ◌∙◌}
 use Rattle.ob0_language_names.specs.Names.{Name, same_name}
 use Rattle.ob0_language_types.specs.Typing.{shape_of_field}
@@ -7,7 +8,7 @@ use Rattle.ob0_types_table.specs.FieldPlaces.{place_of_field}
 use Rattle.ob0_types_fields.specs.Owned.{marked_field, owner}
 use Rattle.ob0_language_values.specs.Values.{FieldShapes, Shape, next_field_shape, no_field_shape, record_shape}
 
--- returns the ordinal `k` of the record if a field has a position in it
+-- returns the ordinal `k` of the record if a field has a position in the record
 abbrev owner_with : ℕ → Option ℕ → Option ℕ
 owner_with k o = option_map (λ (f : FieldOf). f.ordinal) (option_map (λ i. record { ordinal = k; index = i }) o)
 

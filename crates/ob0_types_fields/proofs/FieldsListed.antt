@@ -397,7 +397,8 @@ matched x role.ClosingName (Some k) h = longer x h
 matched x role.ModuleName None h = tt
 matched x role.ModuleName (Some k) h = longer x h
 
--- The identifiers with an owner are those in the places of fields, if this is true of each identifier and its role.
+-- The identifiers with an owner are exactly the identifiers in the places of fields, if each identifier has an owner
+-- exactly if its role says that it is a field.
 listed_fields : (source : Scanned) (table : ℕ → Option ℕ) (xs : List (ℕ × Option ℕ)) (ys : List (Role × ℕ)) → tokens xs ≡ names_only ys → HasOwners table xs
     → map mark_at (map (beside_role (text_at source)) ys) ≡ map (beside_role (owner_writes source table)) ys → tokens_of (fields_among xs) ≡ written_fields ys
 listed_fields source table [] [] e has h = refl

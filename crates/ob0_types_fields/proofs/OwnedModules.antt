@@ -300,7 +300,7 @@ module _ (l : ℕ → Name → Name) (at : ℕ → Option ℕ) (text : ℕ → N
             λ i. has_body (declares (unowned-all l at text value cs s1.0 i) (type_section-owned l at text value j ts s2.0 i) (variables-written i) (procedures-written i)) (body-written i);
       }
 
-  -- the facts about a procedure, given those about its block and the later procedures
+  -- the facts about a procedure that are needed for its block and for the later procedures
   record Entry (noted : TypeNoted Name) (j k : ℕ) (statements : Tree Label (maybe body)) (x : ℕ) (fs : Tree ℕ (maybe formals)) (b : Tree ℕ block) (closing : ℕ) (rest : Tree ℕ (items procedure)) : Type 0 where
     pub listed : List (TypedParameter Name)
     pub pars : parameters_of (typed_by_name noted) j (mapped text value (declares_procedure x fs b closing)) ≡ listed

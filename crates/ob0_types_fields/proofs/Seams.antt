@@ -101,7 +101,8 @@ abbrev tail_of : List (ℕ × Option ℕ) → List (ℕ × Option ℕ)
 tail_of [] = []
 tail_of (x ∷ xs) = xs
 
--- The identifiers before and after a token are determined by the whole list, if those before it have lower tokens.
+-- The whole list determines the identifiers before and after a token, if the identifiers before the token have lower
+-- tokens.
 module _ (c : ℕ) (o : Option ℕ) where
   pub same_seam : (xs us ys vs : List (ℕ × Option ℕ)) → AllByRecursion (λ x. x.0 < c) xs → AllByRecursion (λ x. x.0 < c) us → xs ++ ((c, o) ∷ ys) ≡ us ++ ((c, o) ∷ vs) → (xs ≡ us) × (ys ≡ vs)
   same_seam [] [] ys vs h g e = (refl, ap tail_of e)

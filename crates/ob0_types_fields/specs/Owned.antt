@@ -83,7 +83,7 @@ owned m s (else_branch a) = owned m None a
 owned m s (begins a) = owned m None a
 owned m s t = unowned t
 
--- Return the identifiers of a type with their owners. `k` is the ordinal of the first ARRAY or RECORD of the part, and
+-- Returns the identifiers of a type with their owners. `k` is the ordinal of the first ARRAY or RECORD of the part, and
 -- `r` the ordinal of the group's record.
 abbrev mutual
   -- returns the identifiers of a written type: its name, or the identifiers in an array's length and elements, or in a
@@ -145,7 +145,7 @@ owned_formals k (one no_formals) = []
 owned_formals k (one (some_formals f fs)) =
     owned_section k f ++ owned_sections (k + constructors (section_type f)) fs
 
--- Return the identifiers of a block, of its procedures and of a procedure with their owners. `k` is the ordinal of the
+-- Returns the identifiers of a block, of its procedures and of a procedure with their owners. `k` is the ordinal of the
 -- first ARRAY or RECORD of the part.
 abbrev mutual
   -- returns the identifiers of a block: of its declarations, and then of its statements
@@ -246,7 +246,7 @@ abbrev pub marked_field : ℕ → Option ℕ → List FieldName
 marked_field x None = []
 marked_field x (Some k) = record { token = x; owner = k } ∷ []
 
--- Return the fields that statements select.
+-- Returns the fields that statements select.
 abbrev mutual
   -- returns the fields in a statement or a part of one, in text order
   pub marked_tree : {P : Type 0} {s : Sort} → Meanings ℕ Shape P → Tree ℕ s → List FieldName
@@ -300,7 +300,7 @@ abbrev mutual
 abbrev pub marked_names : ℕ → List ℕ → List FieldName
 marked_names r xs = map (λ x. record { token = x; owner = r }) xs
 
--- Return the fields that a written type declares. `k` is the ordinal of the first ARRAY or RECORD of the part, and `r`
+-- Returns the fields that a written type declares. `k` is the ordinal of the first ARRAY or RECORD of the part, and `r`
 -- the ordinal of the group's record.
 abbrev mutual
   -- returns the fields that a written type declares; an array's length declares none
