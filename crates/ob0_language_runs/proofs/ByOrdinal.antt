@@ -290,7 +290,8 @@ block_declared {N} naming j k f below (has_body (declares cs ts vs ps) statement
     (sym (variables-section naming (as_label naming) (scope_of inner) (first_variable k b) vs))
     (rest_declared naming (after_types j b) (after_variables j b) (first_variable k b) record { noted = inner; store = f.store } within.1 (section_variables vs) ps))))
 
--- return the names of parameters, and the parameters with labels instead of names
+-- `parameter_names` returns the names of parameters. `label_parameters` returns the parameters with labels instead of
+-- names.
 
 abbrev pub parameter_names : {N : Type 0} → List (Parameter N) → List N
 parameter_names [] = []

@@ -30,7 +30,7 @@ use Rattle.ob0_tree.specs.declared.tree.Sign.TheVariants as sign
 use Rattle.ob0_tree.specs.declared.tree.AddOperator.TheVariants as add_operator
 use Rattle.std.proofs.lemmas.Bool.{cases_Bool}
 
--- a procedure means its signature, both before and after the edit
+-- returns the signature of a procedure, which is the same before and after the edit
 abbrev pub as_signed : ℕ → Signature → Signature
 as_signed k signature = signature
 

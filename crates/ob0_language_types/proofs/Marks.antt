@@ -48,7 +48,7 @@ abbrev pub knowns : {V P : Type 0} → Marks V P → Known
 knowns [] = []
 knowns (b ∷ marks) = (b.name, known_object b.object) ∷ knowns marks
 
--- return the first mark with a name, and the list of marks that begins with it
+-- `found` returns the first mark with a name. `marks_from` returns the list of marks that begins with this mark.
 abbrev pub found : {V P : Type 0} → Marks V P → Name → Option (Mark V P)
 found [] x = None
 found (b ∷ marks) x = elim (same_name x b.name) [ true ↦ Some b | false ↦ found marks x ]

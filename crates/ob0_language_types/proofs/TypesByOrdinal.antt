@@ -165,7 +165,7 @@ variables_typed naming j k noted below (more (declares_variable ns u) gs) =
     k (names_listed ns) (a_variable s) noted below
     (variables_typed naming (j + constructors u) (after_names k (names_listed ns)) (noted_names k (names_listed ns) (a_variable s) noted) (noted_names-within k (names_listed ns) (a_variable s) noted below).1 gs))))
 
--- return the names of parameters, and the parameters with labels instead of names
+-- `typed_names` returns the names of parameters. `label_typed` returns the parameters with labels instead of names.
 
 abbrev pub typed_names : {N : Type 0} → List (TypedParameter N) → List N
 typed_names [] = []

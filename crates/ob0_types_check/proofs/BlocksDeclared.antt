@@ -24,8 +24,8 @@ use Rattle.ob0_types_check.proofs.DeclaredNames.{ConstantsPlaced, Numbering, Typ
 use Rattle.ob0_types_check.proofs.DeclaredKnown.{Later, IsKnownAt, agrees_where_seen, all_defined, defined, later_same, later_then, holds_defined, holds_later}
 use Rattle.ob0_types_check.proofs.DeclaredTypes.{none_both, type_denotes}
 
--- Declarations give an environment that agrees with the state after them. They have the ordinals from `n` up to `m`,
--- and their words ARRAY and RECORD the ordinals from `k` up to `l`.
+-- Holds if declarations give an environment that agrees with the state after them. Their ordinals go from `n` up to
+-- `m`, and the ordinals of their words ARRAY and RECORD from `k` up to `l`.
 pub record Declared (w : Numbering) (n m k l : ℕ) (p q : SoFar) (before : List Shape) (scope : Scope Name) (given : Option (TypeEnvironment Name)) : Type 0 where
   pub env : TypeEnvironment Name
   pub given_is : given ≡ Some env

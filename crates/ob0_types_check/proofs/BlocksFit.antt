@@ -33,8 +33,8 @@ use Rattle.ob0_types_check.proofs.BlocksBound.{BindingsKnown, as_long, bindings_
 use Rattle.ob0_types_check.proofs.MadeOnce.{Apart, apart_same, apart_then, apart_to}
 use Rattle.ob0_types_check.proofs.BlocksParameters.{formals_of, parameters_kept, parameters_over, sections_declare}
 
--- A part fits, and its bindings agree with the state after it. The bindings have the ordinals from `n` up to `m`, and
--- the part's words ARRAY and RECORD the ordinals from `k` up to `l`.
+-- Holds if a part fits and its bindings agree with the state after it. The ordinals of the bindings go from `n` up to
+-- `m`, and the ordinals of the part's words ARRAY and RECORD from `k` up to `l`.
 pub record FitsLater (n m k l : ℕ) (p q : SoFar) (before : List Shape) (fits : Bool) (bindings : TypeEnvironment Name) : Type 0 where
   pub right : fits ≡ true
   pub after : List Shape
@@ -42,7 +42,7 @@ pub record FitsLater (n m k l : ℕ) (p q : SoFar) (before : List Shape) (fits :
   pub later : Later n p q before after
   pub bound : BindingsKnown after q.declared n m bindings
 
--- A procedure fits, and the state after it agrees with the scope and the environment.
+-- holds if a procedure fits and the state after it agrees with the scope and the environment
 pub record ProcedureFits (w : Numbering) (n : ℕ) (p q : SoFar) (before : List Shape) (scope : Scope Name) (env : TypeEnvironment Name) (k : ℕ) (d : Tree ℕ (item procedure)) : Type 0 where
   pub parameters : List (TypedParameter Name)
   pub typed : typed_parameters as_names env k (procedure_formals (named w.source d)) ≡ Some parameters

@@ -97,7 +97,8 @@ own_known w p shapes n scope env mode t s (x ∷ xs) is st placed =
       own_known w q shapes (suc n) ((text_at w.source x, n) ∷ scope) ((text_at w.source x, o) ∷ env) mode t s xs is next placed.1,
     )
 
--- The sections of a heading give parameters, with ordinals from `n` upwards, which agree with the state after them.
+-- holds if the sections of a heading give parameters, with ordinals from `n` upwards, which agree with the state after
+-- them
 pub record Parameters (n k l : ℕ) (h g : KnownHeading) (before : List Shape) (xs : List Name) (given : Option (List (TypedParameter Name))) : Type 0 where
   pub parameters : List (TypedParameter Name)
   pub given_is : given ≡ Some parameters
@@ -107,7 +108,7 @@ pub record Parameters (n k l : ℕ) (h g : KnownHeading) (before : List Shape) (
   pub own : ParametersKnown after g.following.declared n xs parameters
   pub formals : (signature : Signature) → FormalsAgree (shape_in before) h.formals signature → FormalsAgree (shape_in after) g.formals (signature ++ formals_of parameters)
 
--- A section of parameters has a type, and its parameters agree with the state after it.
+-- holds if a section of parameters has a type and its parameters agree with the state after it
 pub record OneType (w : Numbering) (n m k l : ℕ) (h g : KnownHeading) (before : List Shape) (scope : Scope Name) (env : TypeEnvironment Name) (mode : Mode) (xs : List Name) (given : Option Shape) : Type 0 where
   pub shape : Shape
   pub given_is : given ≡ Some shape

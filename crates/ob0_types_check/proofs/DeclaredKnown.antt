@@ -192,8 +192,8 @@ module _ (w : Numbering) (p : SoFar) (only_constants : Bool) (shapes : List Shap
     tokens = tokens_agree (identifiers role.Declaring t) (subst (Each (IsSeen w scope)) (sym (looked_up-occurrences role.Declaring (λ x xs. refl) t)) seen);
   }
 
--- Declaring several names for one object gives a later state, which agrees with the scope and environment that have
--- these names.
+-- holds if `q` is a later state than `p` and agrees with the scope and the environment, in which several names of one
+-- object are declared
 pub record AllDefined (w : Numbering) (p q : SoFar) (shapes : List Shape) (n m : ℕ) (scope : Scope Name) (env : TypeEnvironment Name) : Type 0 where
   pub later : Later n p q shapes shapes
   pub holds : IsKnownAt w q shapes m scope env

@@ -38,7 +38,7 @@ map-twice : {A B C : Type 0} (f : B → C) (g : A → B) (xs : List A) → map f
 map-twice f g [] = refl
 map-twice f g (x ∷ xs) = λ i. f (g x) ∷ map-twice f g xs i
 
--- return the parts of lists and declarations
+-- returns the first item of a list, or `d` if it is empty; the next ones return other parts of lists and declarations
 abbrev first_of : {N : Type 0} {i : Item} → Tree N (item i) → Tree N (items i) → Tree N (item i)
 first_of d end = d
 first_of d (more t ts) = t
@@ -167,7 +167,8 @@ pub record Numbering : Type 0 where
   pub ordinals : List (Option ℕ)
   pub room : ℕ
 
--- hold if a declaring token has this ordinal, and if declaring tokens have the ordinals from `k` upwards
+-- `IsPlaced` holds if a declaring token has this ordinal. `NamesPlaced` holds if declaring tokens have the ordinals
+-- from `k` upwards.
 abbrev pub IsPlaced : Numbering → ℕ → ℕ → Type 0
 IsPlaced n k x = (ordinal_in n.ordinals x ≡ Some k) × (k < n.room)
 
@@ -190,7 +191,8 @@ AreSeen n scope t = Each (IsSeen n scope) (occurrences t)
 abbrev pub scope_following : Numbering → ℕ → List ℕ → Scope Name → Scope Name
 scope_following n k xs scope = declare_names k (map (text_at n.source) xs) scope
 
--- hold if declarations of a section have the ordinals from `k` upwards and their looked-up names are in the scope
+-- holds if the declarations of a section have the ordinals from `k` upwards, and their looked-up names have the
+-- ordinals that the scope gives
 abbrev pub ConstantsPlaced : Numbering → Scope Name → ℕ → Tree ℕ (items constant) → Type 0
 ConstantsPlaced n scope k end = Unit {0}
 ConstantsPlaced n scope k (more (declares_constant x e) cs) = IsPlaced n k x × AreSeen n scope e × ConstantsPlaced n ((text_at n.source x, k) ∷ scope) (suc k) cs
@@ -209,7 +211,8 @@ SectionsPlaced n scope k end = Unit {0}
 SectionsPlaced n scope k (more (then_section f) fs) =
     NamesPlaced n k (section_names f) × AreSeen n scope (section_type f) × SectionsPlaced n (scope_following n k (section_names f) scope) (after_names k (section_names f)) fs
 
--- return the scopes after the sections of a block, given its tree of tokens
+-- returns the scope after the constants of a block, given its tree of tokens; the next ones return the scopes after its
+-- other sections
 abbrev pub following_constants : Numbering → Scope Name → ℕ → Tree ℕ block → Scope Name
 following_constants n scope k b = scope_following n k (constant_names (block_constants b)) scope
 
@@ -233,8 +236,8 @@ abbrev mutual
       × VariablesPlaced n (following_types n scope k (has_body (declares cs ts vs ps) statements)) (first_variable k (has_body (declares cs ts vs ps) statements)) (section_variables vs)
       × ProceduresPlaced n (following_variables n scope k (has_body (declares cs ts vs ps) statements)) (first_procedure k (has_body (declares cs ts vs ps) statements)) statements ps
 
-  -- hold if procedures, and the statements after them, have the right ordinals and their looked-up names are in the
-  -- scope
+  -- holds if procedures have the ordinals from `k` upwards, and all looked-up names, also in the later statements, have
+  -- the ordinals that the scope gives
   pub ProceduresPlaced : Numbering → Scope Name → ℕ → Tree ℕ (maybe body) → Tree ℕ (items procedure) → Type 0
   ProceduresPlaced n scope k statements end = AreSeen n scope statements
   ProceduresPlaced n scope k statements (more p rest) = ProcedurePlaced n scope k p × ProceduresPlaced n (following_procedure n scope k p) (after_procedure (suc k) p) statements rest

@@ -33,8 +33,8 @@ pub none_both : (xs ys : List Fault) → xs ++ ys ≡ [] → (xs ≡ []) × (ys 
 none_both [] ys e = (refl, e)
 none_both (x ∷ xs) ys e = absurd (cc)
 
--- A type denotes a shape, and the state after it agrees with this shape. `k` is the ordinal of its first word ARRAY or
--- RECORD, and `l` the next ordinal after its last.
+-- Holds if a type's text denotes a shape and the state after it agrees with this shape. `k` is the ordinal of its first
+-- word ARRAY or RECORD, and `l` the next ordinal after its last.
 pub record Denotes (n : ℕ) (p : SoFar) (before : List Shape) (k l : ℕ) (given : Option Shape) (u : TypedAfter) : Type 0 where
   pub shape : Shape
   pub given_is : given ≡ Some shape
@@ -52,7 +52,7 @@ named_denotes n w p before k l last token (Some (a_constant v)) o table alike e 
 named_denotes n w p before k l last token (Some (a_variable t)) o table alike e = absurd (cc)
 named_denotes n w p before k l last token (Some (a_procedure fs)) o table alike e = absurd (cc)
 
--- An array or a record that isn't too large denotes a shape within the limits.
+-- holds if an array or a record denotes a shape within the limits
 pub record MadeDenotes (n : ℕ) (p : SoFar) (before : List Shape) (k l : ℕ) (s : Shape) (u : TypedAfter) : Type 0 where
   pub limited : within_limits s ≡ Some s
   pub denotes : Denotes n p before k l (Some s) u
@@ -104,7 +104,7 @@ sized_array : (n : ℕ) (p : SoFar) (before : List Shape) (k l ordinal : ℕ) (o
 sized_array n p before k l ordinal o reported count given u e here d none =
     subst (λ z. (array_made ordinal o z u).faults ≡ [] → Denotes n p before k l (option_and_then (λ s. within_limits (array_shape k count s)) given) (array_made ordinal o z u).known) (sym e) (array_denotes n p before k l ordinal count o given u here d) none
 
--- The fields of a group have shapes, and the fields gathered so far agree with the earlier shapes followed by these.
+-- holds if the fields gathered so far agree with the earlier shapes `first` followed by the shapes `own`
 pub record Gathers (n : ℕ) (p : SoFar) (before : List Shape) (k l : ℕ) (first : FieldShapes) (own : FieldShapes) (g : Gathered) : Type 0 where
   pub after : List Shape
   pub apart : Apart k l before after

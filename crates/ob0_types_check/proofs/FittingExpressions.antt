@@ -95,7 +95,8 @@ module _ {T N P : Type 0} (facts : Facts T) (shape : T → Option Shape) (types 
   abbrev pub among : Meanings N Place (Unit {0})
   among = constants_only meaning
 
-  -- hold if the operand of an expression, a simple expression, a term or a factor has its type and value
+  -- holds if the operand of an expression has the expression's type and value; the next three are about a simple
+  -- expression, a term and a factor
   abbrev pub FitsExpression : Tree ℕ expression → Type 0
   FitsExpression e = Fits shape (reported_expression facts e).known (type_of meaning (tree e)) (given_value (evaluate among [] (tree e)))
 
@@ -108,7 +109,8 @@ module _ {T N P : Type 0} (facts : Facts T) (shape : T → Option Shape) (types 
   abbrev pub FitsFactor : Tree ℕ factor → Type 0
   FitsFactor f = Fits shape (reported_factor facts f).known (type_of_factor meaning (tree f)) (given_value (evaluate_factor among [] (tree f)))
 
-  -- hold if the operand for a list of terms or factors after an earlier operand has the right type and value
+  -- holds if the operand after further terms, which follow an operand `x`, has the right type and value; the next one
+  -- is about factors
   abbrev pub FitsAddends : Operand T → Shape → Tree ℕ (items addend) → Type 0
   FitsAddends x s rest = Fits shape (reported_addends facts x rest).known (type_of_addends meaning s (tree rest)) (option_and_then (λ v. given_value (evaluate_addends among [] v (tree rest))) x.value)
 

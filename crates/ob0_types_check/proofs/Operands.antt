@@ -31,7 +31,7 @@ none-of s v e = absurd (cc)
 pub some-of : (s : Shape) (w : Value) → value_type w ≡ Some s → IsOf s (Some w)
 some-of s w h v e = subst (λ u. value_type u ≡ Some s) (some-same w v e) h
 
--- return the type of an operator's result
+-- returns the type of an operator's result
 abbrev shape_added : AddOperator → Shape
 shape_added add_operator.Add = integer_shape
 shape_added add_operator.Subtract = integer_shape

@@ -13,7 +13,7 @@ use Rattle.ob0_types_check.specs.Operations.{a_number, add_operands, complement_
 use Rattle.ob0_types_check.specs.TypeFaults.{operand_value, reported_constant}
 use Rattle.ob0_types_check.proofs.Chains.{IsChain, reported_equal, then_assoc}
 
--- return the report of an operand with one more term added, or one more factor multiplied
+-- returns the report of an operand with one more term added; `reported_multiplied` is about one more factor
 abbrev pub reported_added : {T : Type 0} → Facts T → Operand T → Tree ℕ (item addend) → Reported (Operand T)
 reported_added facts x (adds o t) = reported_term facts t >>= add_operands facts o x
 

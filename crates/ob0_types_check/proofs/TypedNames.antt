@@ -84,7 +84,7 @@ module _ {T : Type 0} (facts : Facts T) (shape : T → Option Shape) where
   holds-right x (Some (a_constant c)) o only a s h = refl
   holds-right x (Some (a_variable t)) o only a s h = variable-named x t facts.only_constants only
 
-  -- the same in constant expressions, in which names may only refer to constants
+  -- In a constant expression, no fault is reported for a name that means a constant and has a type.
 
   abbrev only : Option (Object Shape Signature) → Option (Object Shape (Unit {0}))
   only o = option_map meant.a_constant (constant_of o)

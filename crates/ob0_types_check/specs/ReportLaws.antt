@@ -33,7 +33,7 @@ pub record OperandFits
   pub scalar : (v : Value) → o.value ≡ Some v → value_type v ≡ Some of
   pub placed : o.is_place ≡ true → variable_type meaning (lone_designator e) ≡ Some of
 
--- If no fault is reported for an expression, its operand agrees with it.
+-- If no fault is reported for an expression, its operand agrees with the expression.
 abbrev pub ExpressionsFit : Type 0 → Type 0
 ExpressionsFit N =
     (p : SoFar) (only_constants : Bool) (shapes : List Shape) (label : ℕ → N) (meaning : Typed N)
@@ -52,7 +52,7 @@ pub record ConstantFits
   pub given : constant_value meaning e ≡ Some value
   pub scalar : is_some (value_type value) ≡ true
 
--- If no fault is reported for a constant's right side, its reported value is its value.
+-- If no fault is reported for a constant's right side, the reported value is the value of that expression.
 abbrev pub ConstantsFit : Type 0 → Type 0
 ConstantsFit N =
     (p : SoFar) (shapes : List Shape) (label : ℕ → N) (meaning : Typed N) (e : Tree ℕ expression)
@@ -70,7 +70,7 @@ pub record LengthFits
   pub given : constant_value meaning e ≡ Some value
   pub counted : array_length value ≡ Some length
 
--- If no fault is reported for an array's length, the reported length is its length.
+-- If no fault is reported for an array's length, the reported length is the length that its expression gives.
 abbrev pub LengthsFit : Type 0 → Type 0
 LengthsFit N =
     (p : SoFar) (shapes : List Shape) (label : ℕ → N) (meaning : Typed N) (e : Tree ℕ expression)

@@ -171,7 +171,8 @@ pub bind_typed-append : (ps : List (TypedParameter Label)) (first env : TypeEnvi
 bind_typed-append [] first env = refl
 bind_typed-append (p ∷ ps) first env = bind_typed-append ps ((p.name, a_variable p.formal.shape) ∷ first) env
 
--- return the lists of names after a procedure's heading, and within the procedure
+-- `own_of` returns the list of names after a procedure's heading. `inside_of` returns the list of names within the
+-- procedure.
 abbrev own_of : TypeNoted Name → ℕ → Name → List (TypedParameter Name) → TypeNoted Name
 own_of noted k x listed = record { name = x; ordinal = k; object = a_procedure (map (λ p. p.formal) listed) } ∷ noted
 
