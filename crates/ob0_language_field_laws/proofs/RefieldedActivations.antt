@@ -171,7 +171,7 @@ declare_types-both l scene k (more (declares_type x u) ds) =
     (denoted (meanings as_names (env_as tagged scene)) k (refield_type tagged k u)) (denoted (meanings as_names (env_as l scene)) k (refield_type l k u)) (denoted-both l scene k u)
     (λ s. declare_types-both l ((x, type_thing s) ∷ scene) (k + constructors u) ds))
 
--- The first values of variables are the same ones with their fields under other names.
+-- If fields get other names, only these names change in the first values of variables.
 
 copies-by : (l : FieldNames) (n : ℕ) (v : Value) → copies n (value_by l v) ≡ values_by l (copies n v)
 copies-by l zero v = refl

@@ -157,7 +157,7 @@ declare_typed-by l env k (more (declares_variable ns u) gs) =
     (λ s. declare_typed as_names (k + constructors u) (refield_variables l (k + constructors u) gs) (bind_names (names_listed ns) (a_variable s) (env_by l env))) (denoted-by l env k u)
     (λ s. ap (declare_typed as_names (k + constructors u) (refield_variables l (k + constructors u) gs)) (bind_names-by l (names_listed ns) (a_variable s) env) ∙ declare_typed-by l (bind_names (names_listed ns) (a_variable s) env) (k + constructors u) gs)
 
--- The parameters of a heading are the same ones with their fields under other names.
+-- If fields get other names, only these names change in the types of a heading's parameters.
 
 parameters-by : (l : FieldNames) (m : Mode) (s : Shape) (xs : List Name) (rest : List (TypedParameter Name)) → map (parameter_of m (shape_by l s)) xs ++ map (parameter_by l) rest ≡ map (parameter_by l) (map (parameter_of m s) xs ++ rest)
 parameters-by l m s [] rest = refl

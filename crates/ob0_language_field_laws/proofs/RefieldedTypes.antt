@@ -16,7 +16,7 @@ use Rattle.ob0_language_fields.proofs.NamesMeant.{named}
 use Rattle.ob0_language_field_laws.specs.FieldLaws.{KeepsApart}
 use Rattle.ob0_language_field_laws.proofs.Apart.{add_type-by, complement_type-by, each-then, field_type-by, fields_by, map-then, multiply_type-by, named_by, object_type-by, relation_type-by, shape_by, sign_type-by, with_fields-by, within_limits-by}
 
--- The type of an element is the same one with its fields under other names.
+-- If fields get other names, only these names change in the type of an array's element.
 index-step : (l : FieldNames) (s i : Shape) (at_there : Shape → Option Shape → Option Shape) (at_here : Shape → Option Shape) → ((u : Shape) → at_there (shape_by l u) (Some u) ≡ option_map (shape_by l) (at_here u))
     → option_and_then (λ t. at_there t (element_type s integer_shape)) (element_type (shape_by l s) (shape_by l i)) ≡ option_map (shape_by l) (option_and_then at_here (element_type s i))
 index-step l (array_shape k n u) integer_shape at_there at_here each = each u

@@ -81,7 +81,7 @@ finds-made f g f' g' None o₂ n₁ n₂ n h e₁ e₂ = tt
 finds-made f g f' g' (Some x) None n₁ n₂ n h e₁ e₂ = absurd h
 finds-made f g f' g' (Some x) (Some y) n₁ n₂ n h e₁ e₂ = (n h.0, ap n₁ h.1 ∙ e₁ h.0, ap n₂ h.2 ∙ e₂ h.0)
 
--- Elements and members are the same ones with their fields under other names.
+-- If fields get other names, only these names change in the elements and members of a value.
 
 pub nth_value-by : (l : FieldNames) (vs : Values) (i : ℕ) → nth_value (values_by l vs) i ≡ option_map (value_by l) (nth_value vs i)
 nth_value-by l (next_value v rest) (suc i) = nth_value-by l rest i

@@ -1,5 +1,5 @@
 -- The code's state gives the same facts as the definitions' state. So the contracts about expressions and statements
--- don't mention the definitions' state (`facts_same`). Those about declarations do.
+-- don't mention the definitions' state (`facts_same`). The contracts about declarations do.
 use Rattle.std.proofs.Common.{◌≡◌, ℕ, Bool, List, [], ◌∷◌, if◌then◌else◌, string_bytes, Option, Some, None, map, option_map, option_and_then, slice_get, slice_index_or, set, refl, sym, ap, ◌∙◌}
 use Rattle.std.proofs.lemmas.List.{map-set}
 use Rattle.std.proofs.lemmas.Option.{slice_get-map}
