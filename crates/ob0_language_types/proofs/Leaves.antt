@@ -23,7 +23,7 @@ use Rattle.ob0_language_types.proofs.Marks.{Mark, Marks, Sound, Stays, edited-ho
 use Rattle.ob0_language_types.proofs.TypeNaturality.{constant_value-map, denoted-map}
 use Rattle.std.proofs.lemmas.Bool.{cases_Bool, false_from_ne_true}
 
--- returns true if the literal's name is bound to the predeclared TRUE or FALSE, or if the literal is a number
+-- returns true if the literal's name is bound to the predeclared TRUE or FALSE, or if the literal has no name
 abbrev pub shown : Value → Scope Name → Bool
 shown (truth true) scope = same_ordinal (ordinal_of as_names scope (codes "TRUE")) 2
 shown (truth false) scope = same_ordinal (ordinal_of as_names scope (codes "FALSE")) 3

@@ -33,7 +33,8 @@ pub descends_join : (hi mid lo : ℕ) (xs ys : TypeEnvironment Label) → Descen
 descends_join hi mid lo [] ys a b = descends_higher mid hi lo ys a b
 descends_join hi mid lo (x ∷ xs) ys (i, e, less, a) b = (i, e, less, descends_join i mid lo xs ys a b)
 
--- an environment that consists of bindings of ordinals from `k` up to `n` and an earlier environment
+-- holds if `after` consists of bindings with ordinals from `k` up to `n`, without `n`, followed by the environment
+-- `env`
 pub record Grown (k n : ℕ) (env after : TypeEnvironment Label) : Type 0 where
   pub bound : TypeEnvironment Label
   pub is : after ≡ bound ++ env
@@ -96,14 +97,15 @@ variables_grow scope j k (more (declares_variable ns u) gs) env after h =
     (grown_then k m (after_names m (variable_names gs)) env (bind_names labels (a_variable found.0) env) after first
     (variables_grow (declare_names k xs scope) (j + constructors v) m gs (bind_names labels (a_variable found.0) env) after found.2))
 
--- Binding parameters puts bindings of their ordinals before the environment.
+-- Binding parameters puts their bindings, with ordinals from `k` upwards, before the environment.
 pub parameters_grow : (k : ℕ) (ps : List (TypedParameter Name)) (env : TypeEnvironment Label) → Grown k (after_names k (typed_names ps)) env (bind_typed (label_typed k ps) env)
 parameters_grow k [] env = grown_nothing k env
 parameters_grow k (p ∷ ps) env =
     let o : Object Shape Signature = a_variable p.formal.shape in
     grown_then k (suc k) (after_names (suc k) (typed_names ps)) env ((declared k, o) ∷ env) (bind_typed (label_typed (suc k) ps) ((declared k, o) ∷ env)) (grown_one k o env) (parameters_grow (suc k) ps ((declared k, o) ∷ env))
 
--- Binding a procedure's name and parameters puts bindings of their ordinals before the environment.
+-- Binding a procedure's name and parameters puts their bindings, with ordinals from `k` upwards, before the
+-- environment.
 pub heading_grows : (k : ℕ) (ps : List (TypedParameter Name)) (qs : List (TypedParameter Label)) (env : TypeEnvironment Label)
     → Grown k (after_names (suc k) (typed_names ps)) env (bind_typed (label_typed (suc k) ps) (heading (declared k) qs env))
 heading_grows k ps qs env =

@@ -172,7 +172,7 @@ module _ (text : ℕ → Name) (value : ℕ → ℕ) where
           both (marked_sections k (formal_sections fs)) (declared_in_block n b) (records_in_sections k (formal_sections (mapped text value fs))) (records_in_block (after_formals k p') (mapped text value b)) (formals-hit k fs)
           (block-hit n b ∙ ap (λ c. list_any in_record (records_in_block c (mapped text value b))) (sym counted))
 
--- A name is the new name but not the old one exactly if the two differ and it is the new name.
+-- A name is the new name but not the old one exactly if the name is the new one and the two differ.
 another-name : (x f new : Name) → (same_name x new && not (same_name x f)) ≡ (not (same_name new f) && same_name x new)
 another-name x f new = one (same_name x new) refl
   where

@@ -37,7 +37,7 @@ pub record IsAround (all rest inner : List (ℕ × Option ℕ)) (closing : ℕ) 
   pub whole : all ≡ before ++ (inner ++ ((closing, None) ∷ after))
   pub left : rest ≡ before ++ ((closing, None) ∷ after)
 
--- The split remains if both lists get the same prefix.
+-- If the lists `all` and `rest` get the same prefix, the identifiers of the statements are still between the others.
 in_front : (all rest inner front : List (ℕ × Option ℕ)) (closing : ℕ) → IsAround all rest inner closing → IsAround (front ++ all) (front ++ rest) inner closing
 in_front all rest inner front closing h = record {
   before = front ++ h.before;
@@ -46,7 +46,7 @@ in_front all rest inner front closing h = record {
   left = ap (λ l. front ++ l) h.left ∙ sym (append_assoc front h.before ((closing, None) ∷ h.after));
 }
 
--- The split remains if both lists get the same suffix.
+-- If the lists `all` and `rest` get the same suffix, the identifiers of the statements are still between the others.
 followed_by : (all rest inner back : List (ℕ × Option ℕ)) (closing : ℕ) → IsAround all rest inner closing → IsAround (all ++ back) (rest ++ back) inner closing
 followed_by all rest inner back closing h = record {
   before = h.before;

@@ -84,8 +84,8 @@ module _ (all before others after : List FieldName) (h : HasOthersWithin all bef
       let empty : length h.old ≡ 0 = as_many ∙ ap length none in
       h.is ∙ (λ i. before ++ ((nil_from_length h.old empty ∙ sym none) i ++ after))
 
-  -- The number of tokens below the first written one is the length of the prefix, because the tokens before it are
-  -- lower and it isn't.
+  -- The number of fields whose tokens are below the first written token is the length of `before`. The reason is that
+  -- exactly the fields in `before` have lower tokens.
   module _ (y : FieldName) (ys : List FieldName) (e : others ≡ y ∷ ys) where
     tokens_are : tokens_of all ≡ tokens_of before ++ y.token ∷ (tokens_of ys ++ tokens_of after)
     tokens_are =
