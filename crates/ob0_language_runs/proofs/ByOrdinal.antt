@@ -367,7 +367,7 @@ in_frame-agrees naming P s r q here there (a, e, e', holds) next =
     go None holds = refl
     go (Some f) holds = λ i. next f holds i record s { store = f.store }
 
--- calls
+-- ---- calls
 
 -- holds if calls do the same by name and by ordinal; this is the induction hypothesis for a smaller bound
 abbrev pub CallsAgree : {N : Type 0} → Naming N → (Activation Label → Calls Label) → (Activation N → Calls N) → Type 0

@@ -223,7 +223,7 @@ module _ {N : Type 0} (naming : Naming N) where
       (λ f₁ g₁ grown. frames-on at grown.0 (bind_parameters ps args f₁) (bind_parameters ps others g₁) (parameters-are (at ++ grown.0) ps args others f₁ g₁ (arguments-grow at grown.0 args others are.1) grown.1))
   parameters-are at ps _ _ f g are h = absurd are
 
-  -- calls
+  -- ---- calls
 
   -- holds if calls do the same in related environments
   abbrev pub CallsAlike : (Activation N → Calls N) → (Activation N → Calls N) → Type 0

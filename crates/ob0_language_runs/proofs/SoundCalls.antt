@@ -22,7 +22,7 @@ use Rattle.ob0_language_runs.proofs.SoundStatements.{ObjectFits-grows, PlaceFits
 use Rattle.ob0_language_runs.specs.Fitting.{ArgumentsFit, BindingFits, EnvironmentsFit, EachHasShape, HasShape, HaveShapes, ObjectFits, StoreFits, StoreTyping, modes_in, shape_at_path}
 use Rattle.ob0_language_runs.proofs.Soundness.{CallsFit, ProgressFits}
 
--- environments that fit
+-- ---- environments that fit
 
 -- The modes of checked parameters are the modes in the heading.
 pub modes-of_parameters : {N : Type 0} (f : Formal) (xs : List N) (ps : List (TypedParameter N)) → modes_in (map (λ p. p.formal) (map (typed_parameter f) xs ++ ps)) ≡ map (λ x. f.mode) xs ++ modes_in (map (λ p. p.formal) ps)

@@ -228,7 +228,7 @@ perform-fits typing (Some (a_constant t)) active signature enter args s o e h fi
 perform-fits typing (Some (a_variable t)) active signature enter args s o e h fit called = absurd (cc)
 perform-fits typing _ _ signature enter args s o e h fit called = absurd o
 
--- statements
+-- ---- statements
 
 -- the context that a statement needs: meanings of names and calls that fit
 pub record Sound {N : Type 0} (typing : StoreTyping) (checked : Typed N) (active : Meanings N Place (List Mode)) (enter : Calls N) : Type 0 where
