@@ -1,4 +1,5 @@
--- If a text has faults, the old tokens are returned, and all results for them still hold.
+-- If a changed text has lexical faults, the old tokens are returned, and all results for the old text still hold for
+-- them.
 use Rattle.std.proofs.Common.{ℕ, IfSome, List, Option, subst, sym}
 use Rattle.ob0_scan.specs.Refused.{IsRightRefusalOver}
 use Rattle.ob0_scan.specs.Scanned.{Scanned}

@@ -1,4 +1,4 @@
--- The last text that was a module, after a further change of the text.
+-- The last text that was a module is still the last module after a further change of the text.
 use Rattle.std.proofs.Common.{◌≡◌, ◌≤◌, ◌+◌, ◌-◌, ℕ, List, Some, take, drop, length, sym, ap, ◌∙◌, arith, length-drop}
 use Rattle.std.proofs.lemmas.List.{drop-drop, length-map, take-take}
 use Rattle.ob0_scan.specs.declared.lexeme.Token.{Token}
@@ -24,7 +24,7 @@ less_back i j d n m xs ys p q e =
 count_kinds : (ts : List Token) → length (kinds ts) ≡ length ts
 count_kinds ts = length-map ts (λ (t : Token). valueless t.kind)
 
--- the number of tokens after the range is the same in both texts
+-- Both texts have the same number of tokens after the range of differences.
 as_many : (s : SameTokens) (old new : List Token) → HasSameTokens s old new → length new + s.old_suffix ≡ length old + s.new_suffix
 as_many s old new h =
     let left : length (kinds new) - s.new_suffix ≡ length (kinds old) - s.old_suffix =
@@ -57,7 +57,7 @@ module _ (s wider : SameTokens) (still : IsStillSame s wider) where
     back = less_back s.new_suffix s.old_suffix more wider.new_suffix wider.old_suffix _ _ here there h.back;
   }
 
-  -- a range that ends inside the new text also ends inside the old one
+  -- A wider range that ends inside the new text also ends inside the old text.
   inside_old : (old new : List Token) → HasSameTokens s old new → wider.new_suffix ≤ length new → wider.old_suffix ≤ length old
   inside_old old new h inside = omega (arith, still.as_far, inside, as_many s old new h)
 
@@ -81,7 +81,7 @@ joined_words s t old mid new p q h k = record {
 
 -- ---- the last module
 
--- the module of the previous text, with a wider range of differences
+-- The module of the previous text is the last module if the range of differences is widened within one of its bodies.
 pub is_last : (new : Scanned) (tree : ModuleTree) (b : Bindings) (types : ModuleTypes) (s wider : SameTokens) (place : BodyPlace) → HadModule new tree b types s → IsStillSame s wider → wider.new_suffix ≤ length new.tokens
     → body_place wider.prefix wider.old_suffix (tree_in tree) ≡ Some place → WasLast new (record { bindings = b; types = types; same = wider; place = place })
 is_last new tree b types s wider place h still inside placed = record {
@@ -99,7 +99,7 @@ is_last new tree b types s wider place h still inside placed = record {
   placed = placed;
 }
 
--- it is still the last module after a further change
+-- The last module is still the last module after a further change.
 pub last_stays : (mid new : Scanned) (last : LastModule) (change wider : SameTokens) → WasLast mid last → HasSameTokens change mid.tokens new.tokens → HasSameWords change mid new → IsScan new → IsStillSame change wider → wider.prefix ≡ last.same.prefix → wider.old_suffix ≡ last.same.new_suffix
     → WasLast new (record { bindings = last.bindings; types = last.types; same = record { prefix = last.same.prefix; old_suffix = last.same.old_suffix; new_suffix = wider.new_suffix }; place = last.place })
 last_stays mid new last change wider w tokens words scan still p q =

@@ -1,5 +1,5 @@
--- The tokens that a module's tree spells, given by kinds and indexes: the first ones, and the last
--- ones when all are moved.
+-- The tokens that a module's tree spells follow from the kinds of tokens and their indexes. If all tokens are moved,
+-- the last ones only get other indexes.
 use Rattle.std.proofs.Common.{◌≡◌, ℕ, zero, suc, ◌+◌, ◌<◌, List, [], ◌∷◌, ◌++◌, map, take, drop, length, refl, sym, ap, ◌∙◌, arith, add-zero}
 use Rattle.std.proofs.lemmas.List.{append_cancel_right}
 use Rattle.ob0_scan.specs.declared.lexeme.TokenKind.{TokenKind}
@@ -12,7 +12,7 @@ use Rattle.ob0_tree.specs.Places.{lexeme_of, lexemes_from}
 use Rattle.ob0_tree.specs.Tree.{spell}
 use Rattle.ob0_parse_descent.proofs.Unique.{head_of, tail_of}
 
--- tokens of these kinds; the first has this index
+-- returns tokens of these kinds with consecutive indexes starting at `i`
 abbrev pub marked : ℕ → List TokenKind → List (Terminal ℕ)
 marked i [] = []
 marked i (k ∷ ks) = lexeme_of i k ∷ marked (i + 1) ks
@@ -49,7 +49,7 @@ name_alone i n (kind.Reserved word) e = absurd (cc (e))
 name_alone i n (kind.Integer value) e = absurd (cc (e))
 name_alone i n (kind.Symbol symbol) e = absurd (cc (e))
 
--- a name is the index of its token
+-- The label of a name is the index of its token.
 pub name_index : (i n : ℕ) (ks : List TokenKind) (xs ys : List (Terminal ℕ)) → marked i ks ≡ xs ++ (Name n ∷ ys) → n ≡ i + length xs
 name_index i n [] [] ys e = absurd (cc (e))
 name_index i n [] (x ∷ xs) ys e = absurd (cc (e))
@@ -64,7 +64,8 @@ relabelled_one f i j (kind.Reserved word) e = refl
 relabelled_one f i j (kind.Integer value) e = ap Number e
 relabelled_one f i j (kind.Symbol symbol) e = refl
 
--- moved tokens have the indexes that start at the new place
+-- If `f` maps the indexes starting at `i` to the indexes starting at `j`, it maps the tokens of these kinds at `i` to
+-- the tokens at `j`.
 pub moved_on : (f : ℕ → ℕ) (i j : ℕ) (ks : List TokenKind) → ((d : ℕ) → d < length ks → f (i + d) ≡ j + d) → map (relabelled f f) (marked i ks) ≡ marked j ks
 moved_on f i j [] h = refl
 moved_on f i j (k ∷ ks) h =

@@ -66,7 +66,8 @@ up_to_first (x ∷ ids) xs n names e =
     let same_name : x.1 ≡ n = of_some e in
     up_to_name xs n (names_only ids) (sym names ∙ ap (λ m. m ∷ names_only ids) same_name)
 
--- BEGIN, then tokens other than BEGIN, then the first identifier
+-- Holds if the statements are BEGIN, then tokens other than BEGIN, then the first identifier, then the remaining
+-- tokens.
 record Opened (statements : Tree ℕ (maybe body)) (n : ℕ) : Type 0 where
   pub written : Tree ℕ (item body)
   pub is : statements ≡ one written
@@ -150,7 +151,7 @@ take_short (suc n) [] = omega arith
 take_short (suc n) (x ∷ xs) = let h = take_short n xs in omega (arith, h)
 
 module _ (s : SameTokens) (old_range : s.prefix ≤ s.old_suffix) (new_range : s.prefix ≤ s.new_suffix) where
-  -- a token is on the same side of the range as before
+  -- A moved token is on the same side of the range of differences as before.
   same_side : (c : ℕ) → nat_lt (moved s c) s.prefix ≡ nat_lt c s.prefix
   same_side c = one (nat_lt c s.prefix) refl
     where
@@ -158,7 +159,7 @@ module _ (s : SameTokens) (old_range : s.prefix ≤ s.old_suffix) (new_range : s
       one true e = e
       one false e = less_false (s.new_suffix + (c - s.old_suffix)) s.prefix (omega (arith, new_range))
 
-  -- so the way to the body is the same as before
+  -- The way to the body in the new module is the way in the old module.
   same_way : (old new : Parsed) → without (way_to s.prefix (tree_of new)) (tree_of new) ≡ mapped (moved s) (moved s) (without (way_to s.prefix (tree_of old)) (tree_of old)) → way_to s.prefix (tree_of new) ≡ way_to s.prefix (tree_of old)
   same_way old new e =
       sym (way_less s.prefix (way_to s.prefix (tree_of new)) (tree_of new))
@@ -167,7 +168,7 @@ module _ (s : SameTokens) (old_range : s.prefix ≤ s.old_suffix) (new_range : s
       ∙ way_less s.prefix (way_to s.prefix (tree_of old)) (tree_of old)))
 
 module _ (old new : Parsed) (s : SameTokens) (tokens : HasSameTokens s old.source.tokens new.source.tokens) where
-  -- without its body the new module equals the old one without its body, moved
+  -- The new module without its body is the old module without its body, with its tokens moved.
   without_same : (way new_way : Way) (first closing now_closing : ℕ) → Halves old way first closing → Halves new new_way first now_closing → first < s.prefix → s.old_suffix < closing → now_closing + s.old_suffix ≡ closing + s.new_suffix
       → without new_way (tree_of new) ≡ mapped (moved s) (moved s) (without way (tree_of old))
   without_same way new_way first closing now_closing was is front_side back_side same_closing =
@@ -256,7 +257,7 @@ body_replaced old new s old_scan new_scan old_parsed new_parsed tokens written p
 
 -- ---- the reused results
 
--- the previous text was a module; this keeps no other fact about it
+-- If the previous text was a module, `HadModule` holds for it; all other facts about it are dropped.
 abbrev pub had_module : (c : RescanInPlace) (tree : ModuleTree) (b : Bindings) (types : ModuleTypes) (places : FaultPlaces) → IsModuleBefore c tree b types places → HadModule c.rescan.tokens tree b types c.same
 had_module c tree b types places h = record {
   old = h.old;

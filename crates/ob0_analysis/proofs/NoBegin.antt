@@ -32,7 +32,7 @@ abbrev has_begin : {N : Type 0} → List (Terminal N) → Bool
 has_begin [] = false
 has_begin (x ∷ xs) = is_begin x || has_begin xs
 
--- none among these tokens is BEGIN
+-- holds if no token of the list is BEGIN
 pub record NoBegin {N : Type 0} (xs : List (Terminal N)) : Type 0 where
   pub has : has_begin xs ≡ false
 
@@ -69,7 +69,7 @@ is_there : {N : Type 0} (xs ys : List (Terminal N)) → NoBegin (xs ++ (begin_ma
 is_there [] ys h = absurd (cc (h.has))
 is_there (x ∷ xs) ys h = is_there xs ys (record { has = or_right (is_begin x) (has_begin (xs ++ (begin_mark ∷ ys))) h.has })
 
--- the last BEGIN of a list of tokens is unique
+-- The tokens before the last BEGIN of a list are unique.
 pub last_begin : {N : Type 0} (a u b v : List (Terminal N)) → NoBegin u → NoBegin v → a ++ (begin_mark ∷ u) ≡ b ++ (begin_mark ∷ v) → a ≡ b
 last_begin [] u [] v p q e = refl
 last_begin [] u (y ∷ b) v p q e = absurd (is_there b v (record { has = ap has_begin (sym (tail_of e)) ∙ p.has }))
@@ -100,7 +100,7 @@ signs_apart None = nothing
 signs_apart (Some sign.Plus) = put_before refl nothing
 signs_apart (Some sign.Minus) = put_before refl nothing
 
--- parts of a module that can't contain a body
+-- returns true if an item of this kind can't contain a body
 abbrev pub is_bodiless_item : Item → Bool
 is_bodiless_item procedure = false
 is_bodiless_item body = false

@@ -1,5 +1,5 @@
--- A text that differs from the previous one in one body: the difference of its tokens, its old
--- bindings and its old types.
+-- If a text differs from the previous one in only one body, the old bindings and the old results for types can be
+-- reused.
 use Rattle.std.proofs.Common.{◌≡◌, ◌<◌, ◌≤◌, ℕ, zero, suc, ◌+◌, ◌-◌, ◌||◌, Bool, true, false, nat_le, nat_lt, List, [], ◌∷◌, length, take, drop, slice_get, refl, sym, ap, ◌∙◌, arith, length-drop}
 use Rattle.std.proofs.lemmas.Bool.Decides.{nat_tests}
 use Rattle.std.proofs.lemmas.List.{length-map}
@@ -80,7 +80,7 @@ module _ {new : Scanned} {tree : ModuleTree} {b : Bindings} {types : ModuleTypes
   pub was_bound : IsParsed (parsed_by new tree) → WasBound (parsed_by new tree) b s.prefix s.old_suffix
   was_bound parsed = record { old = h.had.old; change = body_change; parsed = parsed; resolved = h.had.resolved }
 
-  -- if the names were bound again
+  -- The old results for types can be reused if the names were bound again.
   pub were_types : (c : Bindings) → IsResolution (resolution_by (parsed_by new tree) c) → WereTypes (resolution_by (parsed_by new tree) c) types s.prefix
   were_types c resolved = record {
     high = s.old_suffix;
@@ -91,6 +91,6 @@ module _ {new : Scanned} {tree : ModuleTree} {b : Bindings} {types : ModuleTypes
     types_are = h.had.types_are;
   }
 
-  -- if the bindings are kept
+  -- The old results for types can be reused if the bindings are kept.
   pub kept_types : WereTypes (resolution_by (parsed_by new tree) b) types s.prefix
   kept_types = record { high = s.old_suffix; old = h.had.old; bindings = b; change = body_change; bound = λ token e. refl; types_are = h.had.types_are }

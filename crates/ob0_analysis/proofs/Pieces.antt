@@ -1,4 +1,4 @@
--- The known common part of two texts, extended by one piece.
+-- Extending a known common prefix or suffix of two texts by one equal piece gives a longer one.
 use Rattle.std.proofs.Common.{◌≡◌, ◌∙◌, ◌+◌, ◌-◌, ◌≤◌, ℕ, zero, suc, List, [], ◌∷◌, ◌++◌, length, take, drop, refl, sym, ap, arith}
 use Rattle.std.proofs.lemmas.List.{take-append-drop, drop-drop}
 

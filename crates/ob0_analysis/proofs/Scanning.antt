@@ -1,4 +1,4 @@
--- Facts about a text that follow from the results of scanner and parser.
+-- A text is a well-typed module, or has errors, according to what the scanner, the parser and the checks found.
 use Rattle.std.proofs.Common.{◌≡◌, ◌⊎◌, ◌<◌, ◌∙◌, ◌+◌, ◌++◌, ◌∷◌, ℕ, List, [], length, drop, map, encode_utf8_all, inl, inr, refl, sym, ap, subst, arith}
 use Rattle.std.proofs.lemmas.List.{take-append-drop}
 use Rattle.std.specs.Str.{chars, IsUtf8}
@@ -21,7 +21,7 @@ use Rattle.ob0_analysis.specs.Found.{IsDecided}
 use Rattle.ob0_analysis.specs.Diagnosed.{Complaint, IsWellTypedModule, IsRefusalAt, Reports, ReportsFaults, complaint_of}
 use Rattle.ob0_analysis.specs.Texts.{utf8}
 
--- encoding the characters of a text gives its bytes
+-- The UTF-8 bytes of a text's characters are the bytes of the text.
 pub utf8_of : (bytes text : List ℕ) → IsUtf8 bytes → chars bytes ≡ text → bytes ≡ utf8 text
 utf8_of bytes text u is = sym (encodes-chars bytes u) ∙ ap encode_utf8_all is
 
@@ -36,7 +36,7 @@ pub finds_lexemes : (text : List ℕ) (faults : List Fault) (reported : List Com
 finds_lexemes text faults reported bad are is =
     (λ w. bad (scannable text w), inl (record { unscannable = bad; faults = faults; of_text = are; all = is }))
 
--- if no module begins with these tokens, no tree is the module's
+-- If no module begins with these tokens, no tree is the tree of a module with all the tokens.
 none : (s : Scanned) (i : ℕ) (tree : Tree (List ℕ) module_text) → NoneBegins s i → ModuleOf s tree → ⊥
 none s i tree h is =
     let all : List (Terminal (List ℕ)) = text_lexemes s ++ (EndOfText ∷ []) in
@@ -47,7 +47,7 @@ unformed s i one scan h w =
     let same : w.text_of.scanned ≡ s = one w.text_of.scanned s w.text_of.scan.scan scan w.text_of.scan.of in
     none s i w.tree h (subst (λ (x : Scanned). ModuleOf x w.tree) same w.text_of.module_of)
 
--- a text without lexemes, or one that the parser refuses, is no well-typed module
+-- A text without lexemes, or one that the parser refuses, isn't a well-typed module.
 pub no_lexemes_is_none : (text : List ℕ) → (IsScannable text → ⊥) → IsWellTypedModule text → ⊥
 no_lexemes_is_none text bad w = bad (scannable text w)
 
@@ -67,7 +67,7 @@ finds_parser s Memory c one scan by at = absurd at
 abbrev pub OneTree : Type 0
 OneTree = (text : Scanned) (a b : Tree (List ℕ) module_text) → ModuleOf text a → ModuleOf text b → a ≡ b
 
--- a text has one tree; if that isn't well-typed, the text isn't a well-typed module
+-- A text whose tree isn't well-typed isn't a well-typed module, because a text has only one tree.
 ill_typed : (s : Scanned) (tree : Tree (List ℕ) module_text) → OneScan → OneTree → IsScan s → ModuleOf s tree → (WellTyped tree → ⊥) → IsWellTypedModule s.text → ⊥
 ill_typed s tree one only scan is ill w =
     let same : w.text_of.scanned ≡ s = one w.text_of.scanned s w.text_of.scan.scan scan w.text_of.scan.of in
@@ -97,18 +97,18 @@ finds_types c reported one only scan checked bad is =
       })),
     )
 
--- a text whose module isn't well-typed is no well-typed module
+-- If checking finds a fault in a text's module, the text isn't a well-typed module.
 pub faulty_is_none : (text : List ℕ) (c : CheckedModule) (m : Resolution) → c.names ≡ m → OneScan → OneTree → IsScanOf text m.module_read.source → IsChecked c → (c.faults ≡ [] → ⊥) → IsWellTypedModule text → ⊥
 faulty_is_none text c m is one only read checked bad =
     let s : Scanned = c.names.module_read.source in
     let here : IsScanOf text s = subst (λ (r : Resolution). IsScanOf text r.module_read.source) (sym is) read in
     subst (λ (t : List ℕ). IsWellTypedModule t → ⊥) here.of (ill_typed s (named_tree_of c.names.module_read) one only here.scan checked.resolved.parsed.module_of (λ w. bad (checked.reported.1 w)))
 
--- the checked module is the text's module
+-- If the checked module is a scan of the text and is well-typed, it is the text's module.
 pub module_in : (text : List ℕ) (names m : Resolution) → names ≡ m → IsScanOf text m.module_read.source → IsWellTyped names → IsModuleIn text names
 module_in text names m is read w = record { scan = subst (λ (r : Resolution). IsScanOf text r.module_read.source) (sym is) read; well_typed = w }
 
--- a text with a well-typed module is a well-typed module
+-- A text that has a well-typed module with its bindings is a well-typed module.
 abbrev pub is_module : (text : List ℕ) (names : Resolution) → IsModuleIn text names → IsWellTypedModule text
 is_module text names h =
     record { tree = named_tree_of names.module_read; text_of = record { scanned = names.module_read.source; scan = h.scan; module_of = h.well_typed.resolved.parsed.module_of }; well_typed = h.well_typed.well_typed }
@@ -117,7 +117,7 @@ some_or_none : (faults : List Fault) → (faults ≡ []) ⊎ (faults ≡ [] → 
 some_or_none [] = inl refl
 some_or_none (f ∷ fs) = inr (λ e. absurd (omega (arith, ap length e)))
 
--- the report of a module with a tree is empty exactly if the module is well-typed
+-- The report of a text with a tree is empty exactly if the module is well-typed.
 pub reports_module : (c : CheckedModule) (reported : List Complaint) → OneScan → OneTree → IsScan c.names.module_read.source → IsChecked c → reported ≡ map complaint_of c.faults
     → Reports c.names.module_read.source.text reported
 reports_module c reported one only scan checked is =

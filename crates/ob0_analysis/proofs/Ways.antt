@@ -1,5 +1,4 @@
--- The spelling of a module around a body to which a way leads. The same way in the module without
--- that body, or with moved tokens.
+-- The tokens around a body to which a way leads. The way is unchanged if the body is left out or if tokens are moved.
 use Rattle.std.proofs.Common.{◌≡◌, ℕ, zero, suc, nat_lt, if◌then◌else◌, List, [], ◌∷◌, ◌++◌, refl, sym, ap, ◌∙◌, append_assoc}
 use Rattle.ob0_scan.specs.declared.lexeme.TokenKind.TheVariants as kind
 use Rattle.ob0_scan.specs.declared.lexeme.Reserved.TheVariants as reserved
@@ -8,8 +7,8 @@ use Rattle.ob0_tree.specs.Lexeme.{Terminal, Name, Mark}
 use Rattle.ob0_tree.specs.Tree.{Tree, block, body, declares, declares_procedure, end, has_body, is_module, item, items, mapped, maybe, module_text, more, one, procedure, spell}
 use Rattle.ob0_scope_table.specs.BodyReplaced.{Way, block_without, body_among, body_at, body_in, body_inside, closing_among, closing_at, closing_in, closing_inside, later, procedure_without, procedures_without, way_among, way_in_block, way_to, without}
 
--- the tokens around a body and the closing name of its block; the part spells `whole`, and without
--- the body it spells `less`
+-- Holds if `whole` and `less` are the tokens of a part with a body and without it. Both have the same tokens before the
+-- body, and the END and the closing name of its block after it.
 pub record Around {N : Type 0} (whole less : List (Terminal N)) (statements : Tree N (maybe body)) (closing : N) : Type 0 where
   pub front : List (Terminal N)
   pub back : List (Terminal N)
@@ -32,7 +31,8 @@ in_first p q r f z e = append_assoc p q r ∙ e
 in_later : {A : Type 0} (p q r f z : List A) → q ++ r ≡ f ++ z → (p ++ q) ++ r ≡ (p ++ f) ++ z
 in_later p q r f z e = append_assoc p q r ∙ (ap (λ l. p ++ l) e ∙ sym (append_assoc p f z))
 
--- a heading, a block, and its closing tokens
+-- Puts a procedure's heading before its block. If the block, its closing tokens and the rest are `f ++ z`, with the
+-- heading they are the heading, `f` and `z`.
 in_heading : {A : Type 0} (x n semi : A) (fs b e r f z : List A) → b ++ (e ++ r) ≡ f ++ z → (x ∷ n ∷ (fs ++ (semi ∷ (b ++ e)))) ++ r ≡ (x ∷ n ∷ (fs ++ (semi ∷ f))) ++ z
 in_heading x n semi fs b e r f z is =
     ap (λ l. x ∷ n ∷ l)

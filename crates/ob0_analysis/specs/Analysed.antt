@@ -8,18 +8,18 @@ use Rattle.ob0_language_types.specs.WellTyped.{WellTyped}
 use Rattle.ob0_types.specs.CheckedModules.{IsWellTyped}
 use Rattle.ob0_analysis.specs.Diagnosed.{IsWellTypedModule}
 
--- the text is a well-typed module, given with its names
+-- holds if the text is a well-typed module with these bindings of names
 pub record IsModuleIn (text : List ℕ) (names : Resolution) : Type 0 where
   pub scan : IsScanOf text names.module_read.source
   pub well_typed : IsWellTyped names
 
--- the text is parsed as this module
+-- holds if the text is a well-typed module and `m` has its tokens and its tree
 pub record IsReadAs (text : List ℕ) (m : Parsed) : Type 0 where
   pub scan : IsScanOf text m.source
   pub parsed : IsParsed m
   pub well_typed : WellTyped (named_tree_of m)
 
--- the answer for the text's module; None if the text isn't a well-typed module
+-- Holds if the option is the answer for the text's module. None means that the text isn't a well-typed module.
 abbrev pub Finds : {A : Type 0} → List ℕ → (Resolution → A → Type 0) → Option A → Type 0
 Finds text answers (Some answer) =
     (names : Resolution) × IsModuleIn text names × answers names answer

@@ -1,4 +1,4 @@
--- The results for the text before a change.
+-- The results for the text before a change, which an analysis reuses.
 -- Rule: none; for private contracts: what an analysis takes over.
 use Rattle.std.specs.Prelude.{◌≡◌, ◌==◌, ℕ, true, IfSome, List, Option, map}
 use Rattle.ob0_scan.specs.Refused.{AreFaults}
@@ -25,7 +25,9 @@ use Rattle.ob0_analysis.specs.LastModule.{WasLast}
 use Rattle.ob0_analysis.specs.declared.last_module.LastModule.{LastModule}
 use Rattle.ob0_analysis.specs.declared.fault_places.FaultPlaces.{FaultPlaces}
 
--- the previous text has the tokens of these procedures, and this last module came before it
+-- Holds if the scan of the changed text reports correctly which tokens it shares with some old text `old`. The
+-- procedures are kept from `old`, and the last module came before `old`. If the scan reports that all kinds are the
+-- same, the procedures also belong to the new tokens.
 pub record AreKeptBefore (c : RescanInPlace) (procedures : Kept) (last : Option LastModule) : Type 0 where
   pub old : Scanned
   pub new_scan : IsScan c.rescan.tokens
@@ -35,14 +37,15 @@ pub record AreKeptBefore (c : RescanInPlace) (procedures : Kept) (last : Option 
   pub alike : c.alike ≡ true → AreKept c.rescan.tokens.tokens procedures
   pub was : IfSome last (WasLast old)
 
--- the tokens at which a module has faults, and whether its text begins with a token
+-- Holds if the places are the tokens at which this module has faults. `front` must be true exactly if the first token
+-- starts at byte 0 or there is no token.
 pub record ArePlacesOf
     (source : Scanned) (b : Bindings) (types : ModuleTypes) (places : FaultPlaces) : Type 0 where
   pub names : places.names.items ≡ map (tokens_of source.tokens) b.faults.items
   pub of_types : places.types.items ≡ map (tokens_of source.tokens) types.faults.items
   pub front : places.front ≡ (first_start source == 0)
 
--- the same bindings, with the faults at these tokens
+-- holds if `c` has the bindings of `b`, with the faults at these tokens of the text
 pub record HasFaultsAt
     (source : Scanned) (b : Bindings) (places : List FaultAt) (c : Bindings) : Type 0 where
   pub ordinals : c.ordinals.items ≡ b.ordinals.items
@@ -50,7 +53,7 @@ pub record HasFaultsAt
   pub occurrences : c.occurrences.items ≡ b.occurrences.items
   pub faults : c.faults.items ≡ map (fault_at source) places
 
--- the same results for types, with the faults at these tokens
+-- holds if `moved` has the results of `types`, with the faults at these tokens of the text
 pub record HasTypesAt
     (source : Scanned) (types : ModuleTypes) (places : List FaultAt) (moved : ModuleTypes)
     : Type 0 where
@@ -59,7 +62,8 @@ pub record HasTypesAt
   pub faulty : moved.faulty ≡ types.faulty
   pub faults : moved.faults.items ≡ map (fault_at source) places
 
--- a module with these names and types, whose faults are at these tokens
+-- holds if this tree, these bindings and these results for types belong to the text, and the places belong to its
+-- faults
 pub record IsModuleOver
     (source : Scanned) (tree : ModuleTree) (b : Bindings) (types : ModuleTypes)
     (places : FaultPlaces) : Type 0 where
@@ -68,7 +72,8 @@ pub record IsModuleOver
   pub types_are : AreTypesOf (resolution_by (parsed_by source tree) b) types
   pub places_are : ArePlacesOf source b types places
 
--- the previous text was such a module, and the scan of the changed one says what is the same
+-- Holds if the previous text was the given module (`was`), with faults at these places. The scan of the changed text
+-- reports correctly which tokens, kinds, names and spellings both texts share.
 pub record IsModuleBefore
     (c : RescanInPlace) (tree : ModuleTree) (b : Bindings) (types : ModuleTypes)
     (places : FaultPlaces) : Type 0 where
@@ -84,7 +89,7 @@ pub record IsModuleBefore
   pub same_words : c.same_words ≡ true
       → words_in c.rescan.tokens.text c.rescan.tokens.tokens ≡ words_in old.text old.tokens
 
--- the previous text was such a module, and its tokens have the same spelling as those of this text
+-- holds if the previous text was the given module, and its tokens have the same spelling as the tokens of the new text
 pub record IsWrittenAsBefore
     (new : Scanned) (tree : ModuleTree) (b : Bindings) (types : ModuleTypes) (places : FaultPlaces)
     : Type 0 where
@@ -93,8 +98,8 @@ pub record IsWrittenAsBefore
   pub alike : AreWrittenAlike old new
   pub parsed : IsParsed (parsed_by new tree)
 
--- the reason why a changed text has no tokens; if the old tokens are returned, the parser refuses
--- them as before
+-- Holds if the faults of an error are the lexical faults of a changed text. The parser's refusal, the kept procedures
+-- and the last module must still belong to the returned old tokens. An error for lack of memory claims nothing.
 abbrev pub IsUnreadRefusal : List ℕ
     → ParseRefusal
     → Kept
@@ -109,7 +114,8 @@ IsUnreadRefusal text refusal procedures last (rescanned.Faults faults tokens) =
     × IfSome last (WasLast tokens)
 IsUnreadRefusal text refusal procedures last rescanned.Memory = Unit {0}
 
--- the same if the old tokens are a module's
+-- Holds if the faults of an error are the lexical faults of a changed text. The tree, the bindings and the results for
+-- types must still belong to the returned old tokens. An error for lack of memory claims nothing.
 abbrev pub IsUnreadModule : List ℕ
     → ModuleTree
     → Bindings

@@ -21,25 +21,25 @@ use Rattle.ob0_parse_descent.specs.declared.refusal.ParseRefusal.{ParseRefusal}
 use Rattle.ob0_parse_descent.specs.declared.refusal.ParseRefusal.TheVariants.{Syntax, TooDeep, Memory}
 use Rattle.ob0_analysis.specs.declared.diagnoses.Diagnosis.{Diagnosis}
 
--- A text is here the list of its UTF-8 bytes. Spans count these bytes.
+-- In this file a text is the list of its UTF-8 bytes. Spans count these bytes.
 
--- a reported error of a text: its code's name, its message and its place
+-- a reported error of a text: the name of its code, its message and its span in bytes
 pub record Complaint : Type 0 where
   pub code : List ℕ
   pub said : List ℕ
   pub span : Span
 
--- the value of a diagnosis in the definitions
+-- returns the code, message and span of a diagnosis
 abbrev pub complaint_in : Diagnosis → Complaint
 complaint_in d = record { code = d.code.now; said = string_bytes d.message; span = d.span }
 
--- the text has lexemes, and this tree spells its tokens
+-- holds if the text has lexemes and the tree spells its tokens
 pub record IsTextOf (tree : Tree Name module_text) (text : List ℕ) : Type 0 where
   pub scanned : Scanned
   pub scan : IsScanOf text scanned
   pub module_of : ModuleOf scanned tree
 
--- the text is a well-typed module
+-- holds if the text is a well-typed module
 pub record IsWellTypedModule (text : List ℕ) : Type 0 where
   pub tree : Tree Name module_text
   pub text_of : IsTextOf tree text
@@ -47,12 +47,12 @@ pub record IsWellTypedModule (text : List ℕ) : Type 0 where
 
 -- ---- a text without lexemes
 
--- the complaint about a fault of lexemes, names or types: its code, message and place
+-- returns the complaint about a fault of lexemes, names or types
 abbrev pub complaint_of : Fault → Complaint
 complaint_of fault =
     record { code = code_name fault.code; said = code_message fault.code; span = fault.span }
 
--- all faults of the text's lexemes, but at most the first hundred
+-- Holds if the text can't be scanned and the list reports its lexical faults, at most the first hundred.
 pub record ReportsLexemes (text : List ℕ) (reported : List Complaint) : Type 0 where
   pub unscannable : IsScannable text → ⊥
   pub faults : List Fault
@@ -61,32 +61,31 @@ pub record ReportsLexemes (text : List ℕ) (reported : List Complaint) : Type 0
 
 -- ---- a text with lexemes and without a tree
 
--- the span of a token; an empty span at the end of the text if there is no token
+-- returns the span of a token; without a token, an empty span at the end of the text
 abbrev pub place_in : List ℕ → Option Token → Span
 place_in text (Some token) = token.span
 place_in text None = record { start = length text; end = length text }
 
--- the span of the token with this index; an empty span at the end of the text if there is no such
--- token
+-- returns the span of the token with this index; if there is none, an empty span at the end of the text
 abbrev pub place_of : Scanned → ℕ → Span
 place_of s token = place_in s.text (slice_get s.tokens token)
 
--- the parser expects another token at this place
+-- returns the complaint that the parser expects another token at this place
 abbrev pub expects : List ℕ → Span → Complaint
 expects word place =
     record { code = codes "Syntax"; said = codes "expected " ++ word; span = place }
 
--- a construct at nesting level 101 opens at this place
+-- returns the complaint that a construct at nesting level 101 opens at this place
 abbrev pub too_deep : Span → Complaint
 too_deep place = record { code = codes "TooDeep"; said = codes "nested too deep"; span = place }
 
--- the complaint about the parser's refusal of these tokens
+-- holds if the complaint reports this refusal of the tokens by the parser
 abbrev pub IsRefusalAt : Scanned → ParseRefusal → Complaint → Type 0
 IsRefusalAt s (Syntax token expected) c = c ≡ expects (expected_text expected) (place_of s token)
 IsRefusalAt s (TooDeep token) c = c ≡ too_deep (place_of s token)
 IsRefusalAt s Memory c = ⊥
 
--- a single complaint: the token at which the descent stops, and what it expects there
+-- holds if the parser refuses the text and the only complaint is at the refused token
 pub record ReportsParser (text : List ℕ) (reported : List Complaint) : Type 0 where
   pub scanned : Scanned
   pub scan : IsScanOf text scanned
@@ -98,8 +97,8 @@ pub record ReportsParser (text : List ℕ) (reported : List Complaint) : Type 0 
 
 -- ---- a text with a tree that isn't well-typed
 
--- the faults of its declarations, names and types; there is at least one, and at most a hundred are
--- reported
+-- Holds if the text has a tree that isn't well-typed, and the list reports the first faults of its declarations, names
+-- and types. There is at least one, and at most a hundred are reported.
 pub record ReportsTypes (text : List ℕ) (reported : List Complaint) : Type 0 where
   pub names : Resolution
   pub resolved : IsResolution names
@@ -113,13 +112,13 @@ pub record ReportsTypes (text : List ℕ) (reported : List Complaint) : Type 0 w
 
 -- ---- every text
 
--- the errors in the lexemes; if there are none, in the tokens; if there are none, in the names and
--- types
+-- Holds if the list reports the text's lexical faults. If there are none, it reports the parser's refusal. If there is
+-- no refusal either, it reports the faults of names and types.
 abbrev pub ReportsFaults : List ℕ → List Complaint → Type 0
 ReportsFaults text reported =
     ReportsLexemes text reported ⊎ (ReportsParser text reported ⊎ ReportsTypes text reported)
 
--- nothing is reported for a well-typed module, and faults are reported for any other text
+-- holds if nothing is reported for a well-typed module, and the errors are reported for any other text
 abbrev pub Reports : List ℕ → List Complaint → Type 0
 Reports text reported =
     (IsWellTypedModule text × (reported ≡ []))
@@ -127,7 +126,7 @@ Reports text reported =
 
 -- ---- laws
 
--- A text determines the report of the parser's refusal.
+-- Any two reports of the parser's refusal of one text are equal.
 abbrev pub OneRefusal : Type 0
 OneRefusal =
     (text : List ℕ) (a b : List Complaint) → ReportsParser text a → ReportsParser text b → a ≡ b

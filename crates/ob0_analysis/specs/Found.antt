@@ -1,4 +1,4 @@
--- The result of analysing a text.
+-- The invariants of a text's analysis.
 -- Rule: none; for private contracts: what an analysis keeps.
 use Rattle.std.specs.Prelude.{ℕ, IfSome, List, string_bytes}
 use Rattle.ob0_scan.specs.Refused.{AreFaults}
@@ -15,23 +15,23 @@ use Rattle.ob0_analysis.specs.declared.read_text.NotRead.TheVariants as not_read
 use Rattle.ob0_analysis.specs.declared.read_text.Reading.{Reading}
 use Rattle.ob0_analysis.specs.declared.read_text.Reading.TheVariants.{NoTree, Module}
 
--- the refusal isn't for lack of memory
+-- holds if the refusal isn't lack of memory
 abbrev pub IsDecided : ParseRefusal → Type 0
 IsDecided (Syntax token expected) = Unit {0}
 IsDecided (TooDeep token) = Unit {0}
 IsDecided Memory = ⊥
 
--- the parser gives this refusal for these tokens
+-- holds if the parser refuses these tokens for this reason
 abbrev pub IsRefusedByParser : Scanned → ParseRefusal → Type 0
 IsRefusedByParser tokens refusal = RefusedBy tokens refusal × IsDecided refusal
 
--- the text of a reading
+-- returns the text of a reading
 abbrev pub text_read : Reading → List ℕ
 text_read (NoTree ill) = ill.tokens.text
 text_read (Module m) = m.module_read.source.text
 
--- the parser refuses a text without a tree as stated; its tokens have the kept procedures, and the
--- last module came before it
+-- Holds for every module. For a text without a tree: the parser refuses its tokens as stated, the kept procedures
+-- belong to its tokens, and the last module came before it.
 abbrev pub IsRead : Reading → Type 0
 IsRead (NoTree ill) =
     IsRefusedByParser ill.tokens ill.refusal
@@ -39,17 +39,18 @@ IsRead (NoTree ill) =
     × IfSome ill.last (WasLast ill.tokens)
 IsRead (Module m) = Unit {0}
 
--- the reason why a changed text has no tokens: its faults, or lack of memory
+-- Holds if the faults of an error are the lexical faults of a text that has no lexemes. An error for lack of memory
+-- claims nothing.
 abbrev pub IsUnread : List ℕ → NotRead → Type 0
 IsUnread text (not_read.Faults faults last) = (IsScannable text → ⊥) × AreFaults text faults.items
 IsUnread text not_read.Memory = Unit {0}
 
--- the text of an analysis
+-- returns the text of an analysis
 abbrev pub text_of : Findings → List ℕ
 text_of (NoLexemes ill) = string_bytes ill.text
 text_of (Read read) = read
 
--- a text without lexemes has the stated faults
+-- Holds for every text that has lexemes. A text without lexemes has the stated faults.
 abbrev pub IsFound : Findings → Type 0
 IsFound (NoLexemes ill) =
     (IsScannable (string_bytes ill.text) → ⊥) × AreFaults (string_bytes ill.text) ill.faults.items

@@ -14,8 +14,8 @@ use Rattle.ob0_types.specs.CheckedModules.{AreTypesOf}
 use Rattle.ob0_types.specs.declared.checked.ModuleTypes.{ModuleTypes}
 use Rattle.ob0_analysis.specs.declared.last_module.LastModule.{LastModule}
 
--- An earlier text was a module with this tree, these names and these types. Its first and last
--- tokens have the same kinds and spelling as those of the current text.
+-- Holds if an earlier text was a module with this tree, these bindings and these types. Its first and last tokens have
+-- the same kinds and spelling as the first and last tokens of the current text.
 pub record HadModule
     (new : Scanned) (tree : ModuleTree) (b : Bindings) (types : ModuleTypes) (s : SameTokens)
     : Type 0 where
@@ -28,20 +28,21 @@ pub record HadModule
   pub same : HasSameTokens s old.tokens new.tokens
   pub written : HasSameWords s old new
 
--- an earlier text was a module, and the tokens that may differ lay in the body at this place
+-- holds if an earlier text was a module, and the tokens that may differ lay in its body at `last.place`
 pub record WasLast (new : Scanned) (last : LastModule) : Type 0 where
   pub tree : ModuleTree
   pub had : HadModule new tree last.bindings last.types last.same
   pub placed : body_place last.same.prefix last.same.old_suffix (tree_in tree) ≡ Some last.place
 
--- the wider range of differences of two texts contains the other one
+-- Holds if `wider` extends the range of differences `same`. Both ranges grow equally at their end, in the old text and
+-- in the new text.
 pub record IsStillSame (same wider : SameTokens) : Type 0 where
   pub front : wider.prefix ≤ same.prefix
   pub back : same.old_suffix ≤ wider.old_suffix
   pub as_far : wider.new_suffix + same.old_suffix ≡ same.new_suffix + wider.old_suffix
 
--- the last module before one text is still the last module before the next, with these tokens in
--- common
+-- Holds if the last module of the old text is still the last module of the new text. `change` says which tokens both
+-- texts share.
 abbrev pub StaysLast : Option LastModule → SameTokens → Option LastModule → Type 0
 StaysLast before change after =
     (old new : Scanned)

@@ -9,8 +9,7 @@ use Rattle.ob0_scope_table.specs.declared.resolved.Bindings.{Bindings}
 use Rattle.ob0_types.specs.declared.checked.ModuleTypes.{ModuleTypes}
 use Rattle.ob0_analysis.specs.LastModule.{HadModule}
 
--- the previous text was a module, and all its tokens have the same kinds as those of the current
--- text
+-- holds if the previous text was a module, and all tokens of the current text have the same kinds as its tokens
 pub record HadTree
     (new : Scanned) (tree : ModuleTree) (b : Bindings) (types : ModuleTypes) (s : SameTokens)
     : Type 0 where

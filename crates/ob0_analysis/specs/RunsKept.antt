@@ -4,7 +4,7 @@ use Rattle.std.specs.Prelude.{ℕ, List}
 use Rattle.ob0_language_runs.specs.EditLaws.{SameRuns}
 use Rattle.ob0_analysis.specs.Diagnosed.{IsWellTypedModule}
 
--- both texts are well-typed modules that have the same run for every input and all bounds
+-- holds if both texts are well-typed modules with the same run for every input and all bounds on calls and turns
 pub record RunsAsBefore (before after : List ℕ) : Type 0 where
   pub old : IsWellTypedModule before
   pub new : IsWellTypedModule after

@@ -2,6 +2,6 @@
 -- Rule: none; for contracts: a text as characters and as bytes.
 use Rattle.std.specs.Prelude.{ℕ, List, encode_utf8_all}
 
--- the bytes of a text in UTF-8
+-- returns the UTF-8 bytes of a text that is given by its characters
 abbrev pub utf8 : List ℕ → List ℕ
 utf8 text = encode_utf8_all text

@@ -62,7 +62,8 @@ use std::marker::Model;
 /// length by more than this number of bytes.
 const SPARED: usize = 4096;
 
-/// A text without lexemes, with its faults and the results for the last text that had lexemes.
+/// The analysis of a text with lexical faults: the text, its faults, and the analysis of the last text that had
+/// lexemes.
 #[derive(Drop)]
 pub(crate) struct IllLexed {
     text: String,
@@ -70,7 +71,7 @@ pub(crate) struct IllLexed {
     last: Option<ReadText>,
 }
 
-/// The result of analysing a text.
+/// The result of analysing a text: its lexical faults, or the analysis of its lexemes.
 #[derive(Drop)]
 pub(crate) enum Findings {
     NoLexemes(IllLexed),
@@ -86,8 +87,7 @@ pub struct Analysis {
     room: usize,
 }
 
-// Written by hand, because each crate that drops such a value would have to prove a derived one
-// again.
+// This impl is written by hand, because each crate that drops an `Analysis` would have to prove a derived impl again.
 impl Drop for Analysis {
     fn drop(self) {
         let Analysis {
@@ -110,7 +110,7 @@ impl Model for Analysis {
 }
 
 impl Analysis {
-    /// Analyses a text from scratch.
+    /// Analyses a text from scratch. Fails only if an allocation fails.
     pub fn of(alloc: Global, text: &str) -> Result<Analysis, AllocError>
         ensures { IfOk result (λ a. a ≡ text.now) }
     {
@@ -129,9 +129,8 @@ impl Analysis {
         }
     }
 
-    /// Analyses another text, reusing what it has in common with the previous text
-    /// (`ReadText::after`). A text with lexical faults passes on the results for the last text that
-    /// had lexemes.
+    /// Analyses another text, reusing what it has in common with the previous text (`ReadText::after`). If the new text
+    /// has lexical faults, the results for the last text that had lexemes are kept.
     pub fn after(self, alloc: Global, text: &str) -> Result<Analysis, AllocError>
         ensures { IfOk result (λ a. a ≡ text.now) }
     {
@@ -164,9 +163,9 @@ impl Analysis {
         }
     }
 
-    /// Analyses a text from the analysis of a text that has lexemes; its lists have room for a text
-    /// of `room` bytes. If that is much more than the new text needs, nothing is reused, because
-    /// lists keep their capacity.
+    /// Analyses a text, starting from the analysis of a text that has lexemes. The lists of that analysis have room for
+    /// a text of `room` bytes. If that is much more than the new text needs, nothing is reused, because lists keep
+    /// their capacity.
     fn after_read(
         alloc: Global,
         read: ReadText,
@@ -210,7 +209,7 @@ impl Analysis {
         })
     }
 
-    /// Returns the text.
+    /// Returns the text that was analysed.
     pub fn text(&self) -> &str
         ensures { result.now ≡ self.now }
     {
@@ -220,9 +219,8 @@ impl Analysis {
         }
     }
 
-    /// Returns the number of bytes of text that its lists have room for: the length of its own text
-    /// or of a longer earlier one. A text with lexical faults counts in addition to the last text
-    /// that had lexemes.
+    /// Returns the number of bytes of text for which the analysis has room: the length of its text, or of a longer
+    /// earlier one. A text with lexical faults counts in addition to the last text that had lexemes.
     pub fn bytes(&self) -> usize
         ensures { length self.now ≤ result }
     {
@@ -233,7 +231,7 @@ impl Analysis {
         }
     }
 
-    /// Returns the parts of the text's module. Returns None if the text has no tree.
+    /// Returns the module of the text with its tokens, tree, bindings and types. Returns None if the text has no tree.
     pub(crate) fn module_parts(&self) -> Option<&ModuleParts>
         ensures { MatchOption result (¬ IsWellTypedModule self.now)
             (λ m. IsScanOf self.now m.now.module_read.source) }
@@ -244,10 +242,10 @@ impl Analysis {
         }
     }
 
-    /// Returns the errors of the text; there are none exactly for a well-typed module. A text with
-    /// lexical faults has only these, in text order, at most a hundred. A text that has lexemes and
-    /// no tree has one error: the place at which the parser refuses it. A text with a tree has the
-    /// faults of names and types, at most a hundred.
+    /// Returns the errors of the text. There are none exactly if the text is a well-typed module.
+    /// If the text has lexical faults, the errors are these, in text order. If it has lexemes but no tree, the only
+    /// error is the parser's refusal, at the token where parsing stops. If it has a tree, the errors are the faults of
+    /// names and types. In the first and the last case at most a hundred are returned.
     pub fn diagnoses(&self, alloc: Global) -> Result<Vec<Diagnosis>, AllocError>
         ensures reported { IfOk result (λ list. Reports self.now (map complaint_in list.items)) }
         ensures utf8 { IsUtf8 self.now }

@@ -21,14 +21,14 @@ use ob0_scan::laws::one_scan;
 use ob0_types::WellTyped;
 use std::alloc::{AllocError, Global};
 
-/// A question about a well-typed module.
+/// A question about a well-typed module, which `ask` answers.
 pub trait Question {
     type Answer;
 
-    /// A requirement about the text's bytes that callers of `ask` must show.
+    /// The requirement on the question and the text's bytes that callers of `ask` must prove. By default there is none.
     ghost is_about: { Self → List ℕ → Type 0 } = { λ _ _. ⊤ };
 
-    /// The relation between a question, a module and the answer.
+    /// The relation between the question, the module and its answer.
     ghost answers: { Self → Resolution → Self.Answer → Type 0 };
 
     fn answer(&self, alloc: Global, module: &WellTyped<'_>) -> Result<Self::Answer, AllocError>
@@ -36,7 +36,7 @@ pub trait Question {
         ensures { IfOk result (λ answer. answers self.now module.now answer) };
 }
 
-/// Puts a question to the module of a text. Returns None if the text isn't a well-typed module.
+/// Returns the answer of a question about the text's module. Returns None if the text isn't a well-typed module.
 pub fn ask<Q: Question>(
     alloc: Global,
     analysis: &Analysis,

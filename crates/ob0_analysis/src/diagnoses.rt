@@ -15,7 +15,7 @@ pub struct Diagnosis {
     pub span: Span,
 }
 
-/// Makes the diagnoses of faults of lexemes, names or types, one by one.
+/// Returns the diagnoses of faults of lexemes, names or types, in the same order.
 pub fn of_faults(alloc: Global, faults: &[Fault]) -> Result<Vec<Diagnosis>, AllocError>
     ensures { IfOk result (λ list. map complaint_in list.items ≡ map complaint_of faults.now) }
 {
@@ -36,7 +36,7 @@ fn of_fault(alloc: Global, fault: &Fault) -> Result<Diagnosis, AllocError>
     })
 }
 
-/// Makes the diagnosis of the parser's refusal, at the token of the refusal.
+/// Returns the diagnosis of the parser's refusal, at the token that was refused.
 pub fn of_refusal(
     alloc: Global,
     tokens: &Tokens,
@@ -75,7 +75,8 @@ fn too_deep(alloc: Global, span: Span) -> Result<Diagnosis, AllocError>
     })
 }
 
-/// Returns the span of a token. The end of the text counts as the token after the last.
+/// Returns the span of the token with this index. If there is no such token, the span is empty and lies at the end of
+/// the text.
 fn place_of(tokens: &Tokens, token: usize) -> Span
     ensures { result ≡ place_in tokens.now token }
 {

@@ -12,7 +12,7 @@ use ob0_scan::Tokens;
 use ob0_scan::laws::one_scan;
 use std::alloc::{AllocError, Global};
 
-/// Returns the single error of a text without a tree: the place at which the parser refuses it.
+/// Returns the only error of a text without a tree: the parser's refusal, at the token that was refused.
 pub(crate) fn diagnose_refusal(
     alloc: Global,
     tokens: &Tokens,
@@ -29,7 +29,7 @@ pub(crate) fn diagnose_refusal(
     Ok(reported)
 }
 
-/// Returns the errors in the names and types of a text that has a tree.
+/// Returns the faults of names and types of a text that has a tree.
 pub(crate) fn diagnose_module(
     alloc: Global,
     parts: &ModuleParts,

@@ -4,8 +4,8 @@ ghost use Rattle.std.specs.Prelude.{◌≡◌, ◌+◌, ◌-◌, ◌<◌, ◌≤
 ghost use Rattle.ob0_scan.specs.Reused.{IsReplaced};
 ghost use Rattle.ob0_analysis.specs.Pieces.{IsCommonPiece};
 
-/// The `removed` bytes of a text that start at byte `from`, and the number of bytes that replace
-/// them.
+/// A difference between two texts. The first text has `removed` bytes starting at byte `from`. The second text has
+/// `added` bytes in their place.
 #[derive(Clone, Copy, Debug, Drop, PartialEq, Eq)]
 pub(crate) struct Difference {
     pub(crate) from: usize,
@@ -14,8 +14,8 @@ pub(crate) struct Difference {
 }
 
 impl Difference {
-    /// Returns the change from one text to another. It excludes the common beginning, and then the
-    /// common end, of both texts.
+    /// Returns the difference between two texts without their common prefix, and without the common suffix of the
+    /// remaining bytes.
     pub(crate) fn between(old: &str, new: &str) -> Difference
         ensures { IsReplaced old.now new.now result.from result.removed result.added }
     {
@@ -30,10 +30,10 @@ impl Difference {
     }
 }
 
-/// The number of bytes that are compared at once, as long as they are equal.
+/// The number of bytes that are compared at once while the texts are equal.
 const PIECE: usize = 256;
 
-/// Returns the length in bytes of the common beginning of two texts.
+/// Returns the length of the common prefix of two texts, in bytes.
 fn common_prefix(a: &[u8], b: &[u8]) -> usize
     ensures in_a { result ≤ length a.now }
     ensures in_b { result ≤ length b.now }
@@ -43,7 +43,8 @@ fn common_prefix(a: &[u8], b: &[u8]) -> usize
     longer_prefix(a, b, known, 1)
 }
 
-/// Extends a known common beginning of two texts by equal pieces of this size.
+/// Extends a known common prefix of two texts by equal pieces of `size` bytes. Returns the new length of the prefix, in
+/// bytes.
 fn longer_prefix(a: &[u8], b: &[u8], known: usize, size: usize) -> usize
     requires some { 0 < size }
     requires in_a { known ≤ length a.now }
@@ -60,8 +61,7 @@ fn longer_prefix(a: &[u8], b: &[u8], known: usize, size: usize) -> usize
     count
 }
 
-/// Returns the length in bytes of the common end of two texts, after the first `from` bytes of
-/// each.
+/// Returns the length of the common suffix of two texts, in bytes. The first `from` bytes of each text don't count.
 fn common_back(a: &[u8], b: &[u8], from: usize) -> usize
     requires in_a { from ≤ length a.now }
     requires in_b { from ≤ length b.now }
@@ -74,7 +74,8 @@ fn common_back(a: &[u8], b: &[u8], from: usize) -> usize
     longer_suffix(a, b, most, known, 1)
 }
 
-/// Extends a known common end of two texts by equal pieces of this size, to at most `most` bytes.
+/// Extends a known common suffix of two texts by equal pieces of `size` bytes. Returns the new length of the suffix, at
+/// most `most` bytes.
 fn longer_suffix(a: &[u8], b: &[u8], most: usize, known: usize, size: usize) -> usize
     requires some { 0 < size }
     requires in_a { most ≤ length a.now }
@@ -93,7 +94,7 @@ fn longer_suffix(a: &[u8], b: &[u8], most: usize, known: usize, size: usize) -> 
     count
 }
 
-/// Returns whether both texts have a piece of this size at these places and the pieces are equal.
+/// Returns true if both texts have `size` bytes at these places and the bytes are equal.
 fn is_same_piece(a: &[u8], b: &[u8], in_a: usize, in_b: usize, size: usize) -> bool
     ensures yes { result ≡ true → IsCommonPiece a.now b.now in_a in_b size }
 {

@@ -1,5 +1,5 @@
-//! The tokens at which a module has faults. They give the faults their places in a changed text
-//! whose tokens have the same spelling.
+//! The tokens at which a module has faults. If a changed text has tokens with the same spelling, they give the faults
+//! their spans in that text.
 
 ghost use Rattle.std.specs.Prelude.{◌≡◌, ◌==◌, true, IfOk, map};
 ghost use Rattle.ob0_scope_table.specs.FaultTokens.{fault_at, first_start};
@@ -10,8 +10,8 @@ use ob0_scope_table::{Bindings, FaultAt, faults_at_tokens, token_span, tokens_of
 use ob0_types::ModuleTypes;
 use std::alloc::{AllocError, Global};
 
-/// The tokens at which a module's names and types have faults, and whether its text begins with a
-/// token.
+/// The tokens at which a module has faults of names and of types. `front` is true if the text begins with a token or
+/// has no tokens.
 #[derive(Drop)]
 pub(crate) struct FaultPlaces {
     pub(crate) names: Vec<FaultAt>,
@@ -20,7 +20,7 @@ pub(crate) struct FaultPlaces {
 }
 
 impl FaultPlaces {
-    /// Finds these tokens for a module.
+    /// Returns the tokens at which a module has faults.
     pub(crate) fn of(
         alloc: Global,
         tokens: &Tokens,
@@ -38,7 +38,8 @@ impl FaultPlaces {
         })
     }
 
-    /// Returns whether another text begins with a token exactly if this one does.
+    /// Returns true if a text and the text of these places both begin with a token, or neither does. A text without
+    /// tokens counts as one that begins with a token.
     pub(crate) fn keep_front(&self, tokens: &Tokens) -> bool
         ensures { result ≡ true → (first_start tokens.now == 0) ≡ self.now.front }
     {
@@ -46,14 +47,15 @@ impl FaultPlaces {
     }
 }
 
-/// Returns whether a text begins with a token or has no tokens.
+/// Returns true if the text begins with a token or has no tokens.
 fn begins_at_front(tokens: &Tokens) -> bool
     ensures { result ≡ (first_start tokens.now == 0) }
 {
     token_span(tokens, 0).start == 0
 }
 
-/// Moves bindings to a text whose tokens have the same spelling. Their faults are at these tokens.
+/// Returns the bindings for a text whose tokens have the same spelling. The faults are moved to their tokens in that
+/// text.
 pub(crate) fn move_bindings(
     alloc: Global,
     tokens: &Tokens,
@@ -77,8 +79,8 @@ pub(crate) fn move_bindings(
     })
 }
 
-/// Moves the results of checking types to a text whose tokens have the same spelling. Their faults
-/// are at these tokens.
+/// Returns the results of checking types for a text whose tokens have the same spelling. The faults are moved to their
+/// tokens in that text.
 pub(crate) fn move_types(
     alloc: Global,
     tokens: &Tokens,

@@ -1,13 +1,12 @@
 //! The results for the last text that was a module, while the parser refuses the texts after it.
 //!
-//! Most keystrokes in an unfinished statement leave a text without a tree. Meanwhile the names and
-//! types of the earlier module are kept, as long as the difference from it lies in one body: after
-//! its first identifier, and before the END of its block. When the text has a tree again, only that
-//! body is bound and checked (`module_after`).
+//! Most keystrokes in an unfinished statement leave a text without a tree. Meanwhile the names and types of the earlier
+//! module are kept, as long as the difference from it lies in one body. The difference must lie after the body's first
+//! identifier and before the END of its block. When the text has a tree again, only that body is bound and checked
+//! (`module_after`).
 //!
-//! From the first of these texts, the whole body counts as different (`around`). The tree is
-//! dropped then, so the body's place couldn't be found later. A further change must lie in the same
-//! body (`after`).
+//! After the first text that the parser refuses, the whole body counts as different (`around`). The tree is dropped
+//! then, so the body's place couldn't be found later. Any further change must lie in the same body (`after`).
 
 ghost use Rattle.std.specs.Prelude.{◌≡◌, ◌≤◌, IfSome, Some};
 ghost use Rattle.ob0_analysis.specs.LastModule.{HadModule, IsStillSame, StaysLast, WasLast};
@@ -28,7 +27,8 @@ pub(crate) struct LastModule {
 }
 
 impl LastModule {
-    /// Keeps the module of the previous text, if the tokens that differ lie in one of its bodies.
+    /// Returns the results for the previous module, if the tokens that differ lie in one of its bodies. Otherwise
+    /// returns None.
     pub(crate) fn of(
         tokens: &Tokens,
         tree: &ModuleTree,
@@ -50,7 +50,8 @@ impl LastModule {
         })
     }
 
-    /// Keeps the last module after a further change, if the differences still lie in the same body.
+    /// Returns the results for the last module after a further change, if the differences still lie in the same body.
+    /// Otherwise returns None.
     pub(crate) fn after(last: Option<LastModule>, change: SameTokens) -> Option<LastModule>
         ensures { StaysLast last change result }
     {
@@ -60,7 +61,7 @@ impl LastModule {
         }
     }
 
-    /// Keeps this module after a further change.
+    /// Returns these results after a further change. Returns None if the change doesn't lie in the body.
     fn moved(self, change: SameTokens) -> Option<LastModule>
         ensures { StaysLast (Some self) change result }
     {
@@ -84,8 +85,8 @@ impl LastModule {
     }
 }
 
-/// Returns the tokens outside a body, if the differences lie in it, after its first identifier and
-/// before its END. The text now has `count` tokens.
+/// Returns the tokens that both texts share outside a body, if all differences lie between its first identifier and its
+/// END. Otherwise returns None. `count` is the number of the current text's tokens.
 fn around(same: SameTokens, body: BodyPlace, count: usize) -> Option<SameTokens>
     ensures { IfSome result (λ wider. IsStillSame same wider × (wider.new_suffix ≤ count)) }
 {
@@ -98,8 +99,8 @@ fn around(same: SameTokens, body: BodyPlace, count: usize) -> Option<SameTokens>
     Some(wider)
 }
 
-/// Extends the differences of two texts to the range `prefix..old_suffix`. Returns None if they
-/// don't lie in it.
+/// Extends the range of differences between two texts to `prefix..old_suffix`, as token indexes in the old text.
+/// Returns None if the range isn't within it.
 fn widened(same: SameTokens, prefix: usize, old_suffix: usize) -> Option<SameTokens>
     ensures wider { IfSome result (IsStillSame same) }
     ensures prefix { IfSome result (λ wider. wider.prefix ≡ prefix) }

@@ -1,10 +1,10 @@
-//! Laws of the definitions that the contracts cite.
+//! The laws that contracts of this crate cite.
 
 ghost use Rattle.ob0_analysis.specs.Diagnosed.{OneRefusal};
 
 use ob0_scan::laws::one_scan;
 
-/// States that a text determines the parser's refusal and its report.
+/// Proves that the report of the parser's refusal is a function of the text.
 pub fn one_refusal()
     ensures { OneRefusal }
 {

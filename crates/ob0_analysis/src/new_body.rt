@@ -1,5 +1,5 @@
-//! A text in which the statements of one body were replaced. Its names and types are found from
-//! those of the last module.
+//! A text in which the statements of one body were replaced. The results for the last module are reused for its names
+//! and types.
 
 ghost use Rattle.std.specs.Prelude.{◌≡◌, true, IfOk};
 ghost use Rattle.ob0_tree.specs.Parsed.{IsParsed, parsed_by};
@@ -20,8 +20,8 @@ use ob0_tree::{Module, ModuleTree};
 use ob0_types::{ModuleTypes, types_with_new_body};
 use std::alloc::{AllocError, Global};
 
-/// Makes a module from the names and types of the last one. If the tokens that may differ still lie
-/// in the same body, only that body is bound and checked again.
+/// Analyses a module with the help of the names and types of the last module. If the tokens that may differ still lie
+/// in the same body, only that body is bound and checked again. Otherwise the whole module is bound and checked.
 pub(crate) fn module_after(
     alloc: Global,
     tokens: Tokens,
@@ -47,8 +47,8 @@ pub(crate) fn module_after(
     Ok(ModuleParts::from_parts(tokens, tree, names, types))
 }
 
-/// Returns whether a body is the one that was at an earlier place. Both begin with one identifier
-/// before the tokens that may differ, and both end at the same distance after them.
+/// Returns true if the earlier and the current module have the same body. Both bodies begin with one identifier before
+/// the tokens that may differ, and both end at the same distance after these tokens.
 fn is_same_body(was: BodyPlace, now: Option<BodyPlace>, same: SameTokens) -> bool
     ensures { result ≡ true → IsSameBody was now same }
 {
@@ -70,7 +70,7 @@ fn is_same_body(was: BodyPlace, now: Option<BodyPlace>, same: SameTokens) -> boo
     place.closing - same.new_suffix == was.closing - same.old_suffix
 }
 
-/// Binds the names of the replaced body again and reuses all other bindings.
+/// Binds the names of the replaced body again and reuses all other bindings. Fails only if an allocation fails.
 fn bind_new_body(
     alloc: Global,
     tokens: &Tokens,

@@ -18,7 +18,7 @@ use ob0_tree::{Module, ModuleTree};
 use ob0_types::{ModuleTypes, types_again};
 use std::alloc::{AllocError, Global};
 
-/// Returns whether the tokens that may differ in spelling from the previous text lie in one body.
+/// Returns true if the tokens that may differ in spelling from the previous text lie in one body.
 pub(crate) fn is_in_one_body(tokens: &Tokens, tree: &ModuleTree, same: SameTokens) -> bool
     requires { IsParsed (parsed_by tokens.now tree.now) }
     ensures { result
@@ -28,7 +28,7 @@ pub(crate) fn is_in_one_body(tokens: &Tokens, tree: &ModuleTree, same: SameToken
     is_in_body(&read, same.prefix, same.old_suffix)
 }
 
-/// Binds the names. If the texts differ in only one body, only that body is numbered again.
+/// Binds the names again. If only one body differs (`in_body`), only that body's names are bound again.
 pub(crate) fn bind_again(
     alloc: Global,
     tokens: &Tokens,
@@ -51,7 +51,7 @@ pub(crate) fn bind_again(
     }
 }
 
-/// Checks the types. If the texts differ in only one body, the previous results are reused.
+/// Checks the types again. If only one body differs (`in_body`), the previous results are reused for the rest.
 pub(crate) fn check_again(
     alloc: Global,
     tokens: &Tokens,

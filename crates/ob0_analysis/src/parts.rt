@@ -1,4 +1,4 @@
-//! A text that is a module.
+//! A module with everything that its analysis found.
 //!
 //! A *view* joins each part to the layer below by a reference (`Module`, `Resolved`, `Checked`).
 //! Its invariant says that the part belongs to that layer. A view has two constructors, which
@@ -19,8 +19,8 @@ use ob0_types::{Checked, ModuleTypes, types_of};
 use std::alloc::{AllocError, Global};
 use std::marker::Model;
 
-/// The parts of a text that is a module: its tokens, the tree that they spell, the bindings of its
-/// names, and the results of checking its types. No part borrows another.
+/// A module as separate parts: its tokens, the tree that they spell, the bindings of its names, and the results of
+/// checking its types. No part borrows another.
 #[derive(Drop)]
 pub(crate) struct ModuleParts {
     tokens: Tokens,
@@ -49,7 +49,7 @@ impl Model for ModuleParts {
 }
 
 impl ModuleParts {
-    /// Binds the names of a module and checks its types.
+    /// Binds the names of a module and checks its types. Fails only if an allocation fails.
     pub(crate) fn of(
         alloc: Global,
         tokens: Tokens,
@@ -68,7 +68,7 @@ impl ModuleParts {
         })
     }
 
-    /// Makes a module from all of its parts.
+    /// Makes a module from its parts.
     pub(crate) fn from_parts(
         tokens: Tokens,
         tree: ModuleTree,
@@ -88,14 +88,14 @@ impl ModuleParts {
         }
     }
 
-    /// Views the text as a module.
+    /// Returns a view of the module's tokens and tree.
     pub(crate) fn module(&self) -> Module<'_>
         ensures { result ≡ self.now.module_read }
     {
         Module::from_parts(&self.tokens, &self.tree)
     }
 
-    /// Views the module with its names bound.
+    /// Returns a view of the module with its bindings.
     pub(crate) fn resolved<'a>(&'a self, module: &'a Module<'a>) -> Resolved<'a>
         requires { «module».now ≡ self.now.module_read }
         ensures { result ≡ self.now }
@@ -103,7 +103,7 @@ impl ModuleParts {
         Resolved::from_parts(module, &self.bindings)
     }
 
-    /// Views the module with its types checked.
+    /// Returns a view of the module with its types.
     pub(crate) fn checked<'a>(&'a self, resolved: &'a Resolved<'a>) -> Checked<'a>
         requires { resolved.now ≡ self.now }
         ensures names { result.names ≡ self.now }
@@ -127,7 +127,7 @@ impl ModuleParts {
         &self.tokens
     }
 
-    /// Returns all parts.
+    /// Returns all parts of the module, so that each can be reused.
     pub(crate) fn into_parts(self) -> (Tokens, ModuleTree, Bindings, ModuleTypes)
         ensures parsed { IsParsed (parsed_by result.0 result.1) }
         ensures resolved { IsResolution (resolution_by (parsed_by result.0 result.1) result.2) }
@@ -143,7 +143,7 @@ impl ModuleParts {
     }
 }
 
-/// Checks the types of a module.
+/// Checks the types of a module. Fails only if an allocation fails.
 pub(crate) fn check_types(
     alloc: Global,
     tokens: &Tokens,

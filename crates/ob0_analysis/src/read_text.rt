@@ -1,4 +1,4 @@
-//! A text that has lexemes: its tokens, and its module or the parser's refusal.
+//! A text that has lexemes: its tokens, with its module or the parser's refusal.
 
 ghost use Rattle.std.specs.Prelude.{◌≡◌, [], true, IfErr, IfOk, IfSome, MatchOption, map};
 ghost use Rattle.ob0_scan.specs.Refused.{AreFaults, IsRightRefusalOver};
@@ -38,8 +38,9 @@ use ob0_types::laws::types_keep_tokens;
 use std::alloc::{AllocError, Global};
 use std::marker::Model;
 
-/// A text that has lexemes and no tree: its tokens, the parser's refusal, procedures for the next
-/// parse, and the last text that was a module, if it differs in only one body.
+/// A text that has lexemes and no tree. It is kept as its tokens and the parser's refusal, with procedures that the
+/// next parse can reuse. `last` has the results for the last text that was a module, if that text differs in only one
+/// body.
 #[derive(Drop)]
 pub(crate) struct IllFormed {
     tokens: Tokens,
@@ -48,7 +49,7 @@ pub(crate) struct IllFormed {
     last: Option<LastModule>,
 }
 
-/// The result of parsing the tokens of a text.
+/// The result of parsing a text: the parser's refusal or a module.
 #[derive(Drop)]
 pub(crate) enum Reading {
     NoTree(IllFormed),
@@ -73,8 +74,8 @@ impl Model for ReadText {
     ghost invariant = { λ r. IsRead r.reading };
 }
 
-/// The reason why a changed text has no tokens. If it has faults, the results for the previous text
-/// come with them.
+/// The reason why a changed text has no tokens: lexical faults or lack of memory. The results for the previous text
+/// come with the faults.
 #[derive(Drop)]
 pub(crate) enum NotRead {
     Faults(Vec<Fault>, ReadText),
@@ -90,8 +91,8 @@ impl From<AllocError> for NotRead {
 }
 
 impl ReadText {
-    /// Parses a text from its tokens. The procedures in `kept` and the module `last` come from
-    /// earlier texts.
+    /// Parses a text from its tokens. The procedures in `kept` and the results in `last` come from earlier texts and
+    /// are reused if possible.
     pub(crate) fn of_tokens(
         alloc: Global,
         tokens: Tokens,
@@ -134,7 +135,7 @@ impl ReadText {
         Ok(ReadText::of_module(parts))
     }
 
-    /// Wraps a module.
+    /// Wraps a module as a text that has lexemes.
     fn of_module(parts: ModuleParts) -> ReadText
         ensures { result ≡ parts.module_read.source.text }
     {
@@ -178,7 +179,7 @@ impl ReadText {
         }
     }
 
-    /// Makes the error for a changed text without tokens, if the parser refused the previous text.
+    /// Returns the error for a changed text without tokens, if the parser refused the previous text.
     fn unread_refusal(
         _text: &str,
         unread: NotRescanned,
@@ -255,7 +256,7 @@ impl ReadText {
         }
     }
 
-    /// Makes the error for a changed text without tokens, if the previous text was a module.
+    /// Returns the error for a changed text without tokens, if the previous text was a module.
     fn unread_module(
         _text: &str,
         unread: NotRescanned,
@@ -275,9 +276,8 @@ impl ReadText {
         }
     }
 
-    /// Analyses a changed text if the previous one was a module with faults at these tokens. The
-    /// tree is kept if the tokens have the same kinds; the bindings and types are reused as far as
-    /// possible.
+    /// Analyses a changed text if the previous text was a module, with faults at the tokens in `places`. The tree is
+    /// kept if the tokens have the same kinds. The bindings and types are reused as far as possible.
     fn of_scan(
         alloc: Global,
         changed: RescanInPlace,
@@ -309,8 +309,8 @@ impl ReadText {
         ReadText::of_same_tree(alloc, tokens, tree, bindings, types, same, same_names)
     }
 
-    /// Analyses a changed text with other kinds of tokens, reusing procedures of the previous tree.
-    /// If the two differ in only one body, the previous names and types are also reused.
+    /// Analyses a changed text in which the kinds of tokens changed. Procedures of the previous tree are reused. If the
+    /// modules differ in only one body, the previous names and types are also reused.
     fn of_other_kinds(
         alloc: Global,
         tokens: Tokens,
@@ -327,9 +327,9 @@ impl ReadText {
         ReadText::of_tokens(alloc, tokens, kept, last)
     }
 
-    /// Analyses a text with the same tree as the previous one. If the identifiers have the same
-    /// spelling, the bindings are kept. But faults of names would be at other places, so if there
-    /// are any, all names are bound again.
+    /// Analyses a text with the same tree as the previous text. If the identifiers have the same spelling and no name
+    /// has a fault, the bindings are kept. Otherwise all names are bound again, because the faults would be at other
+    /// places.
     fn of_same_tree(
         alloc: Global,
         tokens: Tokens,
@@ -354,8 +354,8 @@ impl ReadText {
         ReadText::of_bindings(alloc, tokens, tree, names, types, same, in_body)
     }
 
-    /// Analyses a text with the same tree as the previous one and these bindings, reusing the
-    /// results for its types.
+    /// Analyses a text that has the previous tree and these bindings. The previous results for types are reused if
+    /// possible.
     fn of_bindings(
         alloc: Global,
         tokens: Tokens,
@@ -376,8 +376,8 @@ impl ReadText {
         Ok(ReadText::of_module(parts))
     }
 
-    /// Analyses a text whose tokens have the same spelling as before. All results are kept, with
-    /// the faults at the same tokens.
+    /// Analyses a text whose tokens have the same spelling as the previous text's. All results are kept, with the
+    /// faults at the same tokens.
     fn of_same_words(
         alloc: Global,
         tokens: Tokens,
@@ -397,7 +397,7 @@ impl ReadText {
         Ok(ReadText::of_module(parts))
     }
 
-    /// Returns the text.
+    /// Returns the text that was analysed.
     pub(crate) fn text(&self) -> &str
         ensures { result.now ≡ self.now }
     {
@@ -407,7 +407,7 @@ impl ReadText {
         }
     }
 
-    /// Returns the parts of the text's module. Returns None if the text has no tree.
+    /// Returns the module of the text with its tokens, tree, bindings and types. Returns None if the text has no tree.
     pub(crate) fn module_parts(&self) -> Option<&ModuleParts>
         ensures { MatchOption result (¬ IsWellTypedModule self.now)
             (λ m. IsScanOf self.now m.now.module_read.source) }
@@ -427,8 +427,7 @@ impl ReadText {
         }
     }
 
-    /// Returns the errors of the text: the place at which the parser refuses it, or its faults of
-    /// names and types.
+    /// Returns the errors of the text: the parser's refusal, or the faults of names and types.
     pub(crate) fn diagnoses(&self, alloc: Global) -> Result<Vec<Diagnosis>, AllocError>
         ensures { IfOk result (λ list. Reports self.now (map complaint_in list.items)) }
     {
@@ -439,7 +438,8 @@ impl ReadText {
     }
 }
 
-/// Scans a text from the tokens of another one, or returns its faults.
+/// Scans a changed text, reusing the tokens of the old text. If the text has lexical faults, the error has them and the
+/// old tokens.
 fn scan_changed(alloc: Global, old: Tokens, text: &str) -> Result<RescanInPlace, NotRescanned>
     ensures ok { IfOk result (λ r. IsScanOf text.now r.rescan.tokens) }
     ensures same { IfOk result (λ r. HasSameTokens r.same old.tokens r.rescan.tokens.tokens) }

@@ -1,4 +1,4 @@
--- Types and the meanings of names if fields have other names.
+-- If fields get other names, only these names change in the types of expressions and in the meanings of names.
 use Rattle.std.proofs.Common.{◌≡◌, ℕ, suc, ◌+◌, ◌*◌, max, Bool, true, false, ◌&&◌, List, [], ◌∷◌, map, if◌then◌else◌, nat_le, ◌==◌, Some, None, Option, option_map, option_and_then, refl, ap, ◌∙◌, subst}
 use Rattle.ob0_tree.specs.declared.tree.Relation.{Relation}
 use Rattle.ob0_tree.specs.declared.tree.Relation.TheVariants as relation
@@ -18,7 +18,7 @@ use Rattle.ob0_language_fields.proofs.NamesMeant.{named}
 use Rattle.ob0_language_field_laws.specs.FieldLaws.{KeepsApart}
 use Rattle.std.proofs.lemmas.Bool.{eqb-true}
 
--- a type with its fields under other names
+-- Returns a type, or the fields of a record, with all fields under other names.
 abbrev mutual
   pub shape_by : FieldNames → Shape → Shape
   shape_by l integer_shape = integer_shape
@@ -30,7 +30,7 @@ abbrev mutual
   fields_by l k no_field_shape = no_field_shape
   fields_by l k (next_field_shape x s rest) = next_field_shape (l (Some k) x) (shape_by l s) (fields_by l k rest)
 
--- an optional value, mapped in two steps
+-- If two steps commute with a mapping, so do both steps together.
 pub map-then : {A B C D : Type 0} (f : A → B) (g : C → D) (o : Option A) (o' : Option B) (n : A → Option C) (n' : B → Option D) → o' ≡ option_map f o → ((a : A) → n' (f a) ≡ option_map g (n a))
     → option_and_then n' o' ≡ option_map g (option_and_then n o)
 map-then {A} f g o o' n n' e each = ap (option_and_then n') e ∙ go o
@@ -47,7 +47,7 @@ pub choose-map : {A B : Type 0} (f : A → B) (b : Bool) (a : A) (o : Option A) 
 choose-map f true a o = refl
 choose-map f false a o = refl
 
--- the types of operations
+-- The types of operations are the same if fields have other names.
 
 pub relation_type-by : (l : FieldNames) (r : Relation) (x y : Shape) → relation_type r (shape_by l x) (shape_by l y) ≡ option_map (shape_by l) (relation_type r x y)
 relation_type-by l r integer_shape integer_shape = refl
@@ -78,7 +78,7 @@ pub complement_type-by : (l : FieldNames) (x : Shape) → complement_type (shape
 complement_type-by l boolean_shape = refl
 complement_type-by l _ = refl
 
--- fields
+-- Looking up a field under its new name gives the field's type under the new names.
 
 pub shape_of_field-by : (l : FieldNames) → KeepsApart l → (k : ℕ) (fs : FieldShapes) (x : Name) → shape_of_field (fields_by l k fs) (l (Some k) x) ≡ option_map (shape_by l) (shape_of_field fs x)
 shape_of_field-by l apart k no_field_shape x = refl
@@ -93,7 +93,7 @@ pub with_fields-by : (l : FieldNames) (k : ℕ) (xs : List Name) (s : Shape) (re
 with_fields-by l k [] s rest = refl
 with_fields-by l k (x ∷ xs) s rest = λ i. next_field_shape (l (Some k) x) (shape_by l s) (with_fields-by l k xs s rest i)
 
--- a type has the same number of scalars and the same depth
+-- A type with its fields under other names has the same number of scalars and the same depth.
 
 mutual
   pub scalars-by : (l : FieldNames) (s : Shape) → scalars (shape_by l s) ≡ scalars s
@@ -120,7 +120,7 @@ within_limits-by l s =
     (λ i. if nat_le (scalars-by l s i) 65536 && nat_le (depth-by l s i) 100 then Some (shape_by l s) else None)
     ∙ choose-map (shape_by l) (nat_le (scalars s) 65536 && nat_le (depth s) 100) s None
 
--- two types are the same exactly if they are the same with their fields under other names
+-- Two types are the same exactly if they are the same with their fields under other names.
 
 and-when : (b p q : Bool) → (b ≡ true → p ≡ q) → (b && p) ≡ (b && q)
 and-when true p q h = h refl
@@ -146,7 +146,7 @@ pub agree-by : (l : FieldNames) → KeepsApart l → (a b : Option Shape) → ag
 agree-by l apart (Some s) (Some t) = same_shape-by l apart s t
 agree-by l apart _ _ = refl
 
--- the meaning of a name
+-- Returns the meaning of a name in which the fields of types have other names.
 
 abbrev pub formal_by : FieldNames → Formal → Formal
 formal_by l f = record { mode = f.mode; shape = shape_by l f.shape }

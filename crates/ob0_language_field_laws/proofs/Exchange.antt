@@ -1,7 +1,6 @@
--- Renaming a field to a free name gives the same module as exchanging the two names.
--- Renaming isn't injective: both the field and the new name become the new name. The exchange keeps
--- all names different. If the new name is free, it agrees with the renaming on every field that a
--- record of the module declares. A module that is well-typed is the same under two namings that
+-- Renaming a field to a free name gives the same module as exchanging the two names. Renaming isn't injective: both the
+-- field and the new name become the new name. The exchange keeps all names different. If the new name is free, both
+-- agree on every field that a record of the module declares. A well-typed module is the same under two namings that
 -- agree on these fields.
 use Rattle.std.proofs.Common.{◌≡◌, ℕ, Bool, true, false, not, ◌&&◌, ◌||◌, List, [], ◌∷◌, if◌then◌else◌, ◌==◌, sym, refl, ap, ◌∙◌, subst}
 use Rattle.std.specs.List.{list_any}
@@ -25,7 +24,7 @@ same_name-refl x = (bytes_eq-Decides x x).1 refl
 same_name-is : (x y : Name) → same_name x y ≡ true → x ≡ y
 same_name-is x y e = (bytes_eq-Decides x y).0 e
 
--- exchanges two names
+-- exchanges two names and leaves all others unchanged
 abbrev pub exchange : Name → Name → Name → Name
 exchange f new x = if same_name x f then new else if same_name x new then f else x
 
@@ -68,8 +67,8 @@ pub exchanged-apart : (r : ℕ) (f new : Name) → KeepsApart (exchanged r f new
 exchanged-apart r f new k x y =
     elim (k == r) as (λ b. same_name (if b then exchange f new x else x) (if b then exchange f new y else y) ≡ same_name x y) [ true ↦ exchange-apart f new x y | false ↦ refl ]
 
--- both give a field the same name, unless it is another field of the record that has the new name
--- already
+-- Renaming and exchanging give a field the same name, unless the field is another field of the record that already has
+-- the new name.
 
 agree-cases : (f new x : Name) (c a b : Bool) → (c && (b && not a)) ≡ false → (if c && a then new else x) ≡ (if c then (if a then new else if b then f else x) else x)
 agree-cases f new x true false true h = absurd (cc)

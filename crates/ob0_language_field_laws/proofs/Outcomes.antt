@@ -1,5 +1,5 @@
--- Steps of two runs: the first gets stuck, or both give results that represent the same thing, or
--- both end alike.
+-- `Follows` relates the outcomes of a step in two runs. The first run gets stuck, or both give results that stand for
+-- the same thing, or both end alike.
 use Rattle.std.proofs.Common.{◌≡◌, ℕ, Bool, true, false, ℤ, pos, negsuc, ◌+ℤ◌, ◌-ℤ◌, ◌*ℤ◌, neg_ℤ, ◌⊎◌, inl, inr, if◌then◌else◌, nat_lt, Some, None, Option, sym, refl, ap, subst₂}
 use Rattle.ob0_tree.specs.declared.tree.Relation.{Relation}
 use Rattle.ob0_tree.specs.declared.tree.Relation.TheVariants as relation
@@ -34,7 +34,7 @@ or_stuck-follows f g None o₂ h = inl refl
 or_stuck-follows f g (Some x) None h = absurd h
 or_stuck-follows f g (Some x) (Some y) h = h
 
--- states that two outcomes hold values that represent the same value
+-- holds if two outcomes give values that stand for the same value
 abbrev pub ValuesFollow : FieldNames → Outcome Value → Outcome Value → Type 0
 ValuesFollow l = Follows (value_by tagged) (value_by l)
 
@@ -74,7 +74,7 @@ pub negate-follows : (l : FieldNames) (v : Value) → ValuesFollow l (negate (va
 negate-follows l (truth b) = (truth _, refl, refl)
 negate-follows l _ = inl refl
 
--- an operation that its left side settles is settled in both runs
+-- If the left operand settles an operation in one run, it does in the other.
 
 pub add_is_settled-by : (l : FieldNames) (o : AddOperator) (v : Value) → add_is_settled o (value_by l v) ≡ add_is_settled o v
 add_is_settled-by l add_operator.Or (truth true) = refl
@@ -90,7 +90,7 @@ settled-follows l b b₁ b₂ v o₁ o₂ e₁ e₂ h =
     subst₂ (λ b₁ b₂. ValuesFollow l (elim b₁ [ true ↦ gives (value_by tagged v) | false ↦ o₁ ]) (elim b₂ [ true ↦ gives (value_by l v) | false ↦ o₂ ])) (sym e₁) (sym e₂)
     (elim b as (λ b. ValuesFollow l (elim b [ true ↦ gives (value_by tagged v) | false ↦ o₁ ]) (elim b [ true ↦ gives (value_by l v) | false ↦ o₂ ])) [ true ↦ (v, refl, refl) | false ↦ h ])
 
--- an index
+-- holds if two outcomes give steps of a path that stand for the same step
 
 abbrev pub MovesFollow : FieldNames → Outcome Step → Outcome Step → Type 0
 MovesFollow l = Follows (step_by tagged) (step_by l)

@@ -1,4 +1,4 @@
--- Two runs declare alike: one with tagged fields, the other with fields under other names.
+-- Declarations do the same in two runs: one with tagged fields, the other with fields under other names.
 use Rattle.std.proofs.Common.{◌≡◌, ℕ, zero, suc, ◌+◌, true, false, List, [], ◌∷◌, ◌++◌, map, length, Some, None, Option, option_map, option_and_then, sym, refl, ap, ◌∙◌, subst₂}
 use Rattle.std.proofs.lemmas.List.{length-map, map-append}
 use Rattle.ob0_tree.specs.Tree.{Tree, block, body, constant, constants, declares, declares_constant, declares_type, declares_variable, end, expression, further_section, has_body, item, items, maybe, more, procedure, then_section, type_name, type_names, variable, variables, written_type}
@@ -21,8 +21,8 @@ use Rattle.ob0_language_field_laws.proofs.RefieldedTypes.{constant_value-alike, 
 use Rattle.ob0_language_field_laws.proofs.ScalarConstants.{constant_value-scalar}
 use Rattle.ob0_language_field_laws.proofs.Values.{Spot, members_by, store_by, tagged, value_by, values_by}
 
--- a procedure in both runs: its text, the ordinal of its first ARRAY or RECORD, and the checked
--- environment of its block
+-- a procedure in both runs: its text, the ordinal of its first ARRAY or RECORD, and the checked environment of its
+-- block
 pub record Text : Type 0 where
   pub first : ℕ
   pub checked : TypeEnvironment Name
@@ -38,7 +38,7 @@ abbrev pub env_as : FieldNames → Scene → Activation Name
 env_as l [] = []
 env_as l (b ∷ scene) = (b.0, thing_by l (code_by l) b.1) ∷ env_as l scene
 
--- the rest of a scene that begins with the first binding of a name
+-- returns the rest of a scene that begins with the first binding of a name
 abbrev pub scene_from : Scene → Name → Scene
 scene_from [] x = []
 scene_from (b ∷ scene) x = elim (same_name x b.0) [ true ↦ b ∷ scene | false ↦ scene_from scene x ]
@@ -60,7 +60,7 @@ newest-as l (b ∷ scene) = refl
 pub object-as : (l : FieldNames) (scene : Scene) (x : Name) → newest (from_binding as_names (env_as l scene) x) ≡ option_map (thing_by l (code_by l)) (newest_thing (scene_from scene x))
 object-as l scene x = ap newest (from_binding-as l scene x) ∙ newest-as l (scene_from scene x)
 
--- the modes of arguments
+-- The modes of a procedure's parameters are the same if fields have other names.
 
 pub formal_modes-refield : (l : FieldNames) (k : ℕ) (fs : Tree Name (items further_section)) → formal_modes (refield_sections l k fs) ≡ formal_modes fs
 formal_modes-refield l k end = refl
@@ -83,7 +83,7 @@ passing-as l _ = refl
 pub meanings-as : (l : FieldNames) (scene : Scene) → statement_meanings as_names (env_as l scene) ≡ active l (things_in scene)
 meanings-as l scene = λ i. named (λ x. (ap passing (object-as l scene x) ∙ passing-as l (newest_thing (scene_from scene x))) i)
 
--- constants and types
+-- returns the meaning of a name if each field has its present name
 
 abbrev pub bare_object : Thing Text → Object Spot Text
 bare_object (type_thing s) = a_type s
@@ -115,7 +115,7 @@ value-as l scene e = constant_value-alike (λ x. newest (from_binding as_names (
 pub denoted-as : (l : FieldNames) (scene : Scene) (k : ℕ) (t : Tree Name written_type) → denoted (meanings as_names (env_as l scene)) k (refield_type l k t) ≡ option_map (shape_by l) (denoted (named (objects_in scene)) k t)
 denoted-as l scene k t = denoted-refield l (λ x. newest (from_binding as_names (env_as l scene) x)) (objects_in scene) (constants-as l scene) (types-as l scene) k t
 
--- states that both runs give results that represent the same thing, or that neither gives a result
+-- holds if both runs give results that stand for the same thing, or neither gives a result
 abbrev pub Both : {A X Y : Type 0} → (A → X) → (A → Y) → Option X → Option Y → Type 0
 Both {A} f g o₁ o₂ = (o : Option A) × (o₁ ≡ option_map f o) × (o₂ ≡ option_map g o)
 
@@ -171,7 +171,7 @@ declare_types-both l scene k (more (declares_type x u) ds) =
     (denoted (meanings as_names (env_as tagged scene)) k (refield_type tagged k u)) (denoted (meanings as_names (env_as l scene)) k (refield_type l k u)) (denoted-both l scene k u)
     (λ s. declare_types-both l ((x, type_thing s) ∷ scene) (k + constructors u) ds))
 
--- the first values of variables
+-- If fields get other names, only these names change in the first values of variables.
 
 copies-by : (l : FieldNames) (n : ℕ) (v : Value) → copies n (value_by l v) ≡ values_by l (copies n v)
 copies-by l zero v = refl
@@ -187,7 +187,7 @@ mutual
   initial_members-by l k no_field_shape = refl
   initial_members-by l k (next_field_shape x s rest) = λ i. next_member (l (Some k) x) (initial-by l s i) (initial_members-by l k rest i)
 
--- frames
+-- a frame in both runs: a scene and a store
 
 pub record Stage : Type 0 where
   pub scene : Scene
@@ -225,7 +225,7 @@ declare_variables-both l k (more (declares_variable ns u) gs) f =
     (λ s. subst₂ (λ a b. FramesBoth l (declare_variables as_names (k + constructors u) (refield_variables tagged (k + constructors u) gs) a) (declare_variables as_names (k + constructors u) (refield_variables l (k + constructors u) gs) b))
     (sym (begun-by tagged (names_listed ns) s f)) (sym (begun-by l (names_listed ns) s f)) (declare_variables-both l (k + constructors u) gs (allocated (names_listed ns) (initial s) f))))
 
--- procedures
+-- binds the procedures of a block in a scene, each with its checked environment
 
 abbrev pub declared_procedures : ℕ → Tree Name (items procedure) → TypeEnvironment Name → Scene → Scene
 declared_procedures k end env scene = scene
@@ -242,7 +242,7 @@ declare_procedures-by l k (more p rest) env scene =
     ((procedure_name-refield l e k p i, a_procedure record { first_constructor = k; text = refield_procedure l e k p }) ∷ env_as l scene))
     ∙ declare_procedures-by l (k + procedure_constructors p) rest (types_after_heading env k p) ((procedure_name p, procedure_thing record { first = k; checked = e; text = p }) ∷ scene)
 
--- blocks
+-- Declaring the parts of a block does the same in both runs.
 
 abbrev declared_parts : FieldNames → ℕ → ℕ → ℕ → Tree Name (items constant) → Tree Name (items type_name) → Tree Name (items variable) → Tree Name (items procedure) → TypeEnvironment Name → Stage → Option (Frame Name)
 declared_parts l k j n cs ts vs ps inner f =
@@ -279,7 +279,7 @@ declare_block-both l checked k (has_body (declares cs ts vs ps) statements) f =
     subst₂ (λ a b. FramesBoth l a b) (sym (declare_block-parts tagged checked k cs ts vs ps statements f)) (sym (declare_block-parts l checked k cs ts vs ps statements f))
     (declared_parts-both l k (after_types k (has_body (declares cs ts vs ps) statements)) (after_variables k (has_body (declares cs ts vs ps) statements)) (section_constants cs) (section_types ts) (section_variables vs) ps (types_after_variables checked k (has_body (declares cs ts vs ps) statements)) f)
 
--- parameters
+-- Binding parameters to arguments does the same in both runs.
 
 pub parameters-refield : (l : FieldNames) (k : ℕ) (fs : Tree Name (items further_section)) → parameters (refield_sections l k fs) ≡ parameters fs
 parameters-refield l k end = refl

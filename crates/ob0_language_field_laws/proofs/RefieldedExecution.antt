@@ -1,5 +1,4 @@
--- Two runs execute a statement alike: one with tagged fields, the other with fields under other
--- names.
+-- A statement does the same in two runs: one with tagged fields, the other with fields under other names.
 use Rattle.std.proofs.Common.{◌≡◌, ℕ, zero, suc, ◌-◌, List, [], ◌∷◌, map, ℤ, ◌⊎◌, inl, inr, true, false, Some, None, Option, option_map, sym, refl, ap, subst₂}
 use Rattle.ob0_tree.specs.Tree.{Tree, assigns, branches, calls, else_branch, else_part, elsif_branch, elsif_part, empty, end, expression, further_statement, items, maybe, more, none, one, repeat_loop, runs, selector, sequence, statement, then_statement, while_loop}
 use Rattle.ob0_language_names.specs.Names.{Name}
@@ -19,7 +18,7 @@ use Rattle.ob0_language_field_laws.proofs.Values.{Spot, place_by, store_by, tagg
 abbrev pub state_by : FieldNames → State → State
 state_by l s = record { store = store_by l s.store; input = s.input; output = s.output }
 
--- states that the first run is stuck, or both continue in the same state, or both end alike
+-- holds if the first run is stuck, or both continue in the same state, or both end alike
 abbrev pub Goes : FieldNames → Progress → Progress → Type 0
 Goes l (running s₁) (running s₂) = (s : State) × (s₁ ≡ state_by tagged s) × (s₂ ≡ state_by l s)
 Goes l (running s₁) (stopped e out) = ⊥
@@ -56,7 +55,7 @@ choose-goes l s (truth true) when₁ when₂ else₁ else₂ h k = h s
 choose-goes l s (truth false) when₁ when₂ else₁ else₂ h k = k s
 choose-goes l s _ when₁ when₂ else₁ else₂ h k = inl refl
 
--- states that both runs evaluate a condition alike
+-- holds if both runs evaluate a condition alike
 abbrev pub Conditions : FieldNames → (State → Outcome Value) → (State → Outcome Value) → Type 0
 Conditions l c₁ c₂ = (s : State) → ValuesFollow l (c₁ (state_by tagged s)) (c₂ (state_by l s))
 
@@ -79,7 +78,7 @@ turns_until-alike l (suc t) c₁ c₂ n₁ n₂ conditions alike s =
     (λ s'. use_in-goes l (value_by tagged) (value_by l) s' (c₁ (state_by tagged s')) (c₂ (state_by l s')) (λ v. choose (state_by tagged s') v running (turns_until t c₁ n₁)) (λ v. choose (state_by l s') v running (turns_until t c₂ n₂)) (conditions s')
     (λ v. choose-goes l s' v running running (turns_until t c₁ n₁) (turns_until t c₂ n₂) (runs-on l) (turns_until-alike l t c₁ c₂ n₁ n₂ conditions alike)))
 
--- assignments
+-- Storing a value at a place does the same in both runs.
 
 pub store_at-goes : (l : FieldNames) → KeepsApart l → (s : State) (p : Spot) (v : Value) → Goes l (store_at (state_by tagged s) (place_by tagged p) (value_by tagged v)) (store_at (state_by l s) (place_by l p) (value_by l v))
 store_at-goes l apart s p v =
@@ -88,7 +87,7 @@ store_at-goes l apart s p v =
     (or_stuck-follows (store_by tagged) (store_by l) (write_place (store_by tagged s.store) (place_by tagged p) (value_by tagged v)) (write_place (store_by l s.store) (place_by l p) (value_by l v)) (write_place-finds l apart s.store p v))
     (λ store. (record { store = store; input = s.input; output = s.output }, refl, refl))
 
--- an argument, as both runs receive it
+-- an argument in both runs
 pub data Given : Type 0 where
   place_given : Spot → Given
   value_given : Value → Given
@@ -124,7 +123,7 @@ evaluate_arguments-follows l apart things checked store (m ∷ ms) (e ∷ es) =
     (evaluate_arguments-follows l apart things checked store ms es) (λ rest. (a ∷ rest, refl, refl)))
 evaluate_arguments-follows l apart things checked store _ _ = inl refl
 
--- calls
+-- The modes and the arguments of a call are the same in both runs.
 
 abbrev pub Modes : Type 0
 Modes = List Mode
@@ -150,7 +149,7 @@ writes-goes : (l : FieldNames) (e₁ e₂ : List Argument → State → Progress
 writes-goes l e₁ e₂ (value_given (number n) ∷ []) s = (append_output s (number_out n), refl, refl)
 writes-goes l e₁ e₂ _ s = inl refl
 
--- states that two runs enter a procedure alike
+-- holds if two runs do the same when they enter a procedure
 abbrev pub EntersAlike : FieldNames → (List Argument → State → Progress) → (List Argument → State → Progress) → Type 0
 EntersAlike l e₁ e₂ = (args : List Given) (s : State) → Goes l (e₁ (map (argument_by tagged) args) (state_by tagged s)) (e₂ (map (argument_by l) args) (state_by l s))
 
@@ -165,7 +164,7 @@ perform-goes l apart (Some (standard_thing writes)) e₁ e₂ enters args s = wr
 perform-goes l apart (Some (standard_thing writes_line)) e₁ e₂ enters [] s = (append_output s line_out, refl, refl)
 perform-goes l apart _ e₁ e₂ enters _ s = inl refl
 
--- statements
+-- Statements do the same in both runs.
 
 mutual
   unfolding execute

@@ -1,5 +1,4 @@
--- Two runs evaluate an expression alike: one with tagged fields, the other with fields under other
--- names.
+-- An expression has the same outcome in two runs: one with tagged fields, the other with fields under other names.
 use Rattle.std.proofs.Common.{◌≡◌, ℤ, Bool, List, [], ◌∷◌, ◌++◌, map, inl, pos, true, false, Some, None, Option, option_map, sym, refl}
 use Rattle.std.proofs.lemmas.List.{map-append}
 use Rattle.ob0_tree.specs.Tree.{Tree, addend, adds, compares, designator, end, expression, factor, field, index, integer, items, more, multiplier, multiplies, negation, none, one, parenthesised, product, relates, selector, simple, sum, term}
@@ -15,7 +14,7 @@ use Rattle.ob0_language_field_laws.proofs.Apart.{shape_by}
 use Rattle.ob0_language_field_laws.proofs.Outcomes.{Follows, ValuesFollow, add-follows, add_is_settled-by, element_step-follows, follows-then, multiply-follows, multiply_is_settled-by, negate-follows, or_stuck-follows, relate-follows, settled-follows, apply_sign-follows}
 use Rattle.ob0_language_field_laws.proofs.Values.{Move, Spot, at_path-finds, part-finds, place_by, read_place-finds, step_by, store_by, tagged, to_field, value_by}
 
--- the value of a constant
+-- the value of a constant: a number or a truth value
 pub data Scalar : Type 0 where
   whole : ℤ → Scalar
   logical : Bool → Scalar
@@ -56,11 +55,11 @@ object_value-follows l apart store (Some (variable_thing p)) =
     or_stuck-follows (value_by tagged) (value_by l) (read_place (store_by tagged store) (place_by tagged p)) (read_place (store_by l store) (place_by l p)) (read_place-finds l apart store p)
 object_value-follows l apart store _ = inl refl
 
--- paths
+-- holds if two outcomes give paths that stand for the same path
 abbrev pub PathsFollow : FieldNames → Outcome (List Step) → Outcome (List Step) → Type 0
 PathsFollow l = Follows (map (step_by tagged)) (map (step_by l))
 
--- a step, then the path that continues from the selected part
+-- makes a step, and then follows the path that continues from the selected part
 abbrev pub follow_on : (Value → Outcome (List Step)) → Value → Step → Outcome (List Step)
 follow_on next v s = or_stuck (part v s) >>= (λ w. next w >>= (λ steps. gives (s ∷ steps)))
 
@@ -159,7 +158,7 @@ mutual
       (λ m. follow_on-follows l apart (λ w. follow (active tagged things) (store_by tagged store) w (refield tagged checked (type_after s (index e)) rest)) (λ w. follow (active l things) (store_by l store) w (refield l checked (type_after s (index e)) rest))
       (λ w. follow-follows l apart things checked store (type_after s (index e)) w rest) v m))
 
--- places
+-- holds if two outcomes give places that stand for the same place
 
 abbrev pub PlacesFollow : FieldNames → Outcome Place → Outcome Place → Type 0
 PlacesFollow l = Follows (place_by tagged) (place_by l)

@@ -1,5 +1,4 @@
--- A module's declarations and statements are well-typed exactly if they are with its fields under
--- other names.
+-- A module's declarations and statements are well-typed exactly if they are with the fields under other names.
 use Rattle.std.proofs.Common.{◌≡◌, ℕ, ◌+◌, true, false, ◌&&◌, List, [], ◌∷◌, ◌++◌, map, Some, None, Option, option_map, option_and_then, unwrap_or, refl, ap, ◌∙◌}
 use Rattle.ob0_tree.specs.Tree.{Tree, begins, block, body, constant, declares, declares_constant, declares_procedure, declares_type, declares_types, declares_variable, declares_variables, end, formals, further_section, has_body, is_module, item, items, maybe, more, no_formals, none, one, procedure, section, then_section, type_name, type_names, value_section, variable, variable_section, variables, written_type}
 use Rattle.ob0_language_names.specs.Names.{Name, as_names, same_name}
@@ -17,7 +16,7 @@ use Rattle.ob0_language_field_laws.proofs.Apart.{constant_of-by, each-then, form
 use Rattle.ob0_language_field_laws.proofs.RefieldedTypes.{constant_value-alike, constructors-refield, denoted-refield}
 use Rattle.ob0_language_field_laws.proofs.RefieldedStatements.{sequence_fits-refield}
 
--- environments
+-- Looking up a name in an environment whose fields have other names gives its meaning with these names.
 
 abbrev pub env_by : FieldNames → TypeEnvironment Name → TypeEnvironment Name
 env_by l [] = []
@@ -56,7 +55,7 @@ formals-by l (p ∷ ps) = λ i. formal_by l p.formal ∷ formals-by l ps i
 pub heading-by : (l : FieldNames) (x : Name) (ps : List (TypedParameter Name)) (env : TypeEnvironment Name) → heading x (map (parameter_by l) ps) (env_by l env) ≡ env_by l (heading x ps env)
 heading-by l x ps env = λ i. (x, a_procedure (formals-by l ps i)) ∷ env_by l env
 
--- the parts of declarations
+-- The sections of a block with its fields under other names are the sections with theirs.
 
 pub section_types-refield : (l : FieldNames) (k : ℕ) (ts : Tree Name (maybe type_names)) → section_types (refield_type_section l k ts) ≡ refield_types l k (section_types ts)
 section_types-refield l k none = refl
@@ -88,7 +87,7 @@ procedure_formals-refield l env k (declares_procedure x fs b closing) = formal_s
 pub procedure_name-refield : (l : FieldNames) (env : TypeEnvironment Name) (k : ℕ) (p : Tree Name (item procedure)) → procedure_name (refield_procedure l env k p) ≡ procedure_name p
 procedure_name-refield l env k (declares_procedure x fs b closing) = refl
 
--- the number of ARRAY and RECORD is unchanged
+-- The number of words ARRAY and RECORD is the same if fields have other names.
 
 pub section_constructors-refield : (l : FieldNames) (k : ℕ) (f : Tree Name section) → constructors (section_type (refield_section l k f)) ≡ constructors (section_type f)
 section_constructors-refield l k f = ap constructors (section_type-refield l k f) ∙ constructors-refield l k (section_type f)
@@ -131,7 +130,7 @@ mutual
   procedure_constructors-refield l env k (declares_procedure x fs b closing) = λ i.
       formals_count-refield l k fs i + block_constructors-refield l env (after_formals k (declares_procedure x fs b closing)) b i
 
--- declarations
+-- Declarations give the same environment with the fields under other names.
 
 pub declare_constants-by : (l : FieldNames) (env : TypeEnvironment Name) (cs : Tree Name (items constant)) → declare_constants as_names (env_by l env) cs ≡ option_map (env_by l) (declare_constants as_names env cs)
 unfolding declare_constants
@@ -158,7 +157,7 @@ declare_typed-by l env k (more (declares_variable ns u) gs) =
     (λ s. declare_typed as_names (k + constructors u) (refield_variables l (k + constructors u) gs) (bind_names (names_listed ns) (a_variable s) (env_by l env))) (denoted-by l env k u)
     (λ s. ap (declare_typed as_names (k + constructors u) (refield_variables l (k + constructors u) gs)) (bind_names-by l (names_listed ns) (a_variable s) env) ∙ declare_typed-by l (bind_names (names_listed ns) (a_variable s) env) (k + constructors u) gs)
 
--- parameters
+-- If fields get other names, only these names change in the types of a heading's parameters.
 
 parameters-by : (l : FieldNames) (m : Mode) (s : Shape) (xs : List Name) (rest : List (TypedParameter Name)) → map (parameter_of m (shape_by l s)) xs ++ map (parameter_by l) rest ≡ map (parameter_by l) (map (parameter_of m s) xs ++ rest)
 parameters-by l m s [] rest = refl
@@ -180,7 +179,7 @@ typed_parameters-by l env k (more (then_section f) fs) =
     (ap (λ inner. typed_parameters as_names inner (k + constructors (section_type f)) (refield_sections l (k + constructors (section_type f)) fs)) (bind_names-by l (section_names f) (a_variable s) env) ∙ typed_parameters-by l (bind_names (section_names f) (a_variable s) env) (k + constructors (section_type f)) fs)
     (λ rest i. Some (parameters-by l (section_mode f) s (section_names f) rest i)))
 
--- blocks
+-- A block is well-typed exactly if it is with its fields under other names.
 
 pub body_fits-refield : (l : FieldNames) → KeepsApart l → (env : TypeEnvironment Name) (statements : Tree Name (maybe body)) → body_fits as_names (env_by l env) (refield l (meanings as_names env) None statements) ≡ body_fits as_names env statements
 unfolding body_fits

@@ -1,5 +1,5 @@
--- Names are declared once exactly if they are with fields under other names; if each field gets its
--- present name, nothing changes.
+-- A module declares names once exactly if it does with its fields under other names. If each field gets its present
+-- name, nothing changes.
 use Rattle.std.proofs.Common.{◌≡◌, ℕ, suc, ◌+◌, not, ◌&&◌, ◌||◌, List, [], ◌∷◌, ◌++◌, map, Some, refl, ap, ◌∙◌, sym}
 use Rattle.std.proofs.lemmas.List.{map-append}
 use Rattle.ob0_tree.specs.Tree.{Tree, array_type, block, declares, declares_procedure, declares_type, declares_variable, end, fields, further_fields, further_name, further_section, has_body, is_module, item, items, listed, module_text, more, named_type, names, no_fields, procedure, record_type, some_fields, then_fields, then_name, then_section, type_name, variable, written_type}
@@ -15,7 +15,7 @@ use Rattle.ob0_language_fields.specs.Fields.{FieldNames, types_after_heading, ty
 use Rattle.ob0_language_field_laws.specs.FieldLaws.{KeepsApart}
 use Rattle.ob0_language_field_laws.proofs.RefieldedModules.{formal_sections-refield, procedure_name-refield, section_names-refield, section_type-refield, section_types-refield, section_variables-refield}
 
--- a record's fields
+-- The fields of a record under other names are its fields with their new names.
 
 further_fields-named : (h : Name → Name) (xs : Tree Name (items further_name)) → further_names (with_names (λ x. x) h xs) ≡ map h (further_names xs)
 further_fields-named h end = refl
@@ -57,7 +57,7 @@ mutual
   groups_once-refield l apart r k end = refl
   groups_once-refield l apart r k (more (then_fields g) rest) = λ i. group_once-refield l apart r k g i && groups_once-refield l apart r (k + group_constructors g) rest i
 
--- declarations
+-- The declarations of a block declare each field once exactly if they do with fields under other names.
 
 types_once-refield : (l : FieldNames) → KeepsApart l → (k : ℕ) (ds : Tree Name (items type_name)) → types_once (refield_types l k ds) ≡ types_once ds
 types_once-refield l apart k end = refl

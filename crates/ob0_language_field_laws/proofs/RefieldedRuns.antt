@@ -1,4 +1,4 @@
--- Two runs of a module are alike: one with tagged fields, the other with fields under other names.
+-- A module has the same run with tagged fields and with fields under other names.
 use Rattle.std.proofs.Common.{◌≡◌, ℕ, zero, suc, ◌+◌, ◌≢◌, true, false, List, [], ◌∷◌, map, ℤ, ◌⊎◌, inl, inr, Some, None, Option, option_map, option_and_then, sym, refl, ap, ◌∙◌, subst, subst₂}
 use Rattle.ob0_tree.specs.Tree.{Tree, begins, block, body, declares, declares_procedure, formals, has_body, is_module, item, maybe, module_text, none, one, procedure}
 use Rattle.ob0_language_names.specs.Names.{Name, as_names}
@@ -18,7 +18,7 @@ use Rattle.ob0_language_field_laws.proofs.RefieldedExpressions.{constant_thing, 
 use Rattle.ob0_language_field_laws.proofs.RefieldedModules.{formal_sections-refield, formals_count-refield, refielding_keeps_fitting-holds}
 use Rattle.ob0_language_field_laws.proofs.Values.{store_by, tagged, tagged-apart}
 
--- the checked meanings of names for a block's statements
+-- returns the checked meanings of names for a block's statements
 abbrev pub body_meaning : TypeEnvironment Name → ℕ → Tree Name block → Typed Name
 body_meaning checked k b = meanings as_names (types_after_procedures (types_after_variables checked k b) (after_variables k b) (block_procedures b))
 
@@ -41,12 +41,12 @@ in_frame-goes l s o₁ o₂ n₁ n₂ h each = subst₂ (λ p q. Goes l (in_fram
     go None = inl refl
     go (Some f) = each f record { store = f.store; input = s.input; output = s.output }
 
--- the declarations and the statements of a block
+-- declares a block in a frame and executes its statements
 abbrev entered : FieldNames → ℕ → TypeEnvironment Name → Tree Name block → (Activation Name → Calls Name) → ℕ → Option (Frame Name) → State → Progress
 entered l k checked b enter t o s =
     in_frame s (option_and_then (declare_block as_names k (refield_block l checked k b)) o) (λ f. execute_body as_names f.env (enter f.env) t (block_statements (refield_block l checked k b)))
 
--- states that two runs call alike, in every scene
+-- holds if calls do the same in both runs, in every scene
 abbrev pub AllCallsAlike : FieldNames → (Activation Name → Calls Name) → (Activation Name → Calls Name) → Type 0
 AllCallsAlike l e₁ e₂ = (scene : Scene) → CallsAlike l (e₁ (env_as tagged scene)) (e₂ (env_as l scene))
 
@@ -60,7 +60,7 @@ entered-goes l apart k checked b e₁ e₂ calls t o₁ o₂ h s =
     (sym (statements-refield tagged checked k b)) (sym (statements-refield l checked k b))
     (execute_body-alike l apart f.scene (body_meaning checked k b) (e₁ (env_as tagged f.scene)) (e₂ (env_as l f.scene)) (calls f.scene) t (block_statements b) s'))
 
--- a call of a procedure
+-- binds the arguments of a call, declares the procedure's block and executes its statements
 abbrev activated : FieldNames → ℕ → TypeEnvironment Name → Tree Name (maybe formals) → Tree Name block → (Activation Name → Calls Name) → ℕ → List Given → Stage → State → Progress
 activated l j checked fs b enter t args f s =
     entered l (j + formals_constructors (formal_sections fs)) checked b enter t (bind_parameters (parameters (formal_sections fs)) (map (argument_by l) args) (frame_by l f)) s
@@ -72,7 +72,7 @@ activated-goes l apart j checked fs b e₁ e₂ calls t args f s =
     let ps = parameters (formal_sections fs) in
     entered-goes l apart k checked b e₁ e₂ calls t (bind_parameters ps (map (argument_by tagged) args) (frame_by tagged f)) (bind_parameters ps (map (argument_by l) args) (frame_by l f)) (bind_parameters-both l ps args f) s
 
--- an activation by its parts
+-- Activating a procedure is binding its arguments, declaring its block and executing its statements.
 activate-parts : (l : FieldNames) (j : ℕ) (checked : TypeEnvironment Name) (x y closing : Name) (fs : Tree Name (maybe formals)) (b : Tree Name block) (enter : Activation Name → Calls Name) (t : ℕ) (args : List Given) (scene : Scene) (s : State)
     → activate as_names enter t (env_as l ((y, procedure_thing record { first = j; checked = checked; text = declares_procedure x fs b closing }) ∷ scene)) (map (argument_by l) args) (state_by l s)
     ≡ activated l j checked fs b enter t args record { scene = (y, procedure_thing record { first = j; checked = checked; text = declares_procedure x fs b closing }) ∷ scene; store = s.store } (state_by l s)
@@ -96,7 +96,7 @@ activate-goes l apart e₁ e₂ calls t ((y, procedure_thing c) ∷ scene) args 
         (activated-goes l apart j checked fs b e₁ e₂ calls t args record { scene = (y, procedure_thing record { first = j; checked = checked; text = declares_procedure x fs b closing }) ∷ scene; store = s.store } s)
 activate-goes l apart e₁ e₂ calls t _ args s = inl refl
 
--- calls, by induction on the number of calls that may be open
+-- Calls do the same in both runs, by induction on the number of calls that may be open.
 calls-alike : (l : FieldNames) → KeepsApart l → (c t : ℕ) → AllCallsAlike l (call as_names c t) (call as_names c t)
 unfolding call
 calls-alike l apart zero t scene x args s = inr refl
@@ -104,7 +104,7 @@ calls-alike l apart (suc c) t scene x args s =
     subst₂ (λ a b. Goes l (activate as_names (call as_names c t) t a (map (argument_by tagged) args) (state_by tagged s)) (activate as_names (call as_names c t) t b (map (argument_by l) args) (state_by l s)))
     (sym (from_binding-as tagged scene x)) (sym (from_binding-as l scene x)) (activate-goes l apart (call as_names c t) (call as_names c t) (calls-alike l apart c t) t (scene_from scene x) args s)
 
--- the outermost block
+-- the scene of the outermost block, which has the predeclared names
 abbrev outermost_scene : Scene
 outermost_scene =
     (as_names.predeclared 6, standard_thing writes_line) ∷ (as_names.predeclared 5, standard_thing writes) ∷ (as_names.predeclared 4, standard_thing reads)
@@ -126,7 +126,7 @@ run-parts : (l : FieldNames) (x closing : Name) (b : Tree Name block) (input : L
 unfolding run_over
 run-parts l x closing b input c t = refl
 
--- a well-typed module has the same run as with tagged fields
+-- A well-typed module has the same run with tagged fields and with fields under other names.
 pub run-tagged : (l : FieldNames) → KeepsApart l → (m : Tree Name module_text) → fits_over as_names m ≡ true → (input : List ℤ) (c t : ℕ) → run_over as_names (refielded tagged m) input c t ≡ run_over as_names (refielded l m) input c t
 run-tagged l apart (is_module x b closing) fits input c t =
     run-parts tagged x closing b input c t

@@ -1,6 +1,5 @@
--- The types of expressions, and the types that texts denote, if fields have other names.
--- If the fields of an environment's types and of a tree get other names, the tree's type is the old
--- one with the same other names. Each step is an equation, so no premise is needed.
+-- If the fields of an environment's types and of a tree get other names, the tree's type is the old type with the same
+-- new names. Each step is an equation, so no premise is needed.
 use Rattle.std.proofs.Common.{◌≡◌, ℕ, suc, ◌+◌, ◌∷◌, map, Some, None, Option, option_map, option_and_then, refl, ap, ◌∙◌, sym}
 use Rattle.ob0_tree.specs.Tree.{Tree, addend, adds, array_type, compares, designator, end, expression, factor, field, fields, further_fields, further_name, index, integer, items, listed, more, multiplier, multiplies, named_type, names, negation, no_fields, none, one, parenthesised, product, record_type, relates, selector, simple, some_fields, sum, term, then_fields, then_name, written_type}
 use Rattle.ob0_language_names.specs.Mapping.{with_names}
@@ -17,7 +16,7 @@ use Rattle.ob0_language_fields.proofs.NamesMeant.{named}
 use Rattle.ob0_language_field_laws.specs.FieldLaws.{KeepsApart}
 use Rattle.ob0_language_field_laws.proofs.Apart.{add_type-by, complement_type-by, each-then, field_type-by, fields_by, map-then, multiply_type-by, named_by, object_type-by, relation_type-by, shape_by, sign_type-by, with_fields-by, within_limits-by}
 
--- the type after an index
+-- If fields get other names, only these names change in the type of an array's element.
 index-step : (l : FieldNames) (s i : Shape) (at_there : Shape → Option Shape → Option Shape) (at_here : Shape → Option Shape) → ((u : Shape) → at_there (shape_by l u) (Some u) ≡ option_map (shape_by l) (at_here u))
     → option_and_then (λ t. at_there t (element_type s integer_shape)) (element_type (shape_by l s) (shape_by l i)) ≡ option_map (shape_by l) (option_and_then at_here (element_type s i))
 index-step l (array_shape k n u) integer_shape at_there at_here each = each u
@@ -72,7 +71,7 @@ mutual
       map-then (shape_by l) (shape_by l) _ _ (λ i. option_and_then (λ t. type_at (named objects) t rest) (element_type s i)) (λ i. option_and_then (λ t. type_at (named_by l objects) t (refield l (named objects) (element_type s integer_shape) rest)) (element_type (shape_by l s) i)) (type_of-refield l apart objects e)
       (λ i. index-step l s i (λ t o. type_at (named_by l objects) t (refield l (named objects) o rest)) (λ t. type_at (named objects) t rest) (λ u. type_at-refield l apart objects u rest))
 
--- types that texts denote
+-- A type's text with its fields under other names denotes the same type with these names.
 
 mutual
   pub constructors-refield : (l : FieldNames) (k : ℕ) (t : Tree Name written_type) → constructors (refield_type l k t) ≡ constructors t
@@ -95,7 +94,7 @@ further-refield h (more (then_name x) xs) = λ i. h x ∷ further-refield h xs i
 pub names-refield : (h : Name → Name) (ns : Tree Name names) → map (λ x. x) (names_listed (with_names (λ x. x) h ns)) ≡ map h (map (λ x. x) (names_listed ns))
 names-refield h (listed x xs) = λ i. h x ∷ further-refield h xs i
 
--- two constant expressions have the same value if their names mean the same constants
+-- Two constant expressions have the same value if their names mean the same constants.
 pub constant_value-alike : {V P W Q : Type 0} (there : Name → Option (Object V P)) (here : Name → Option (Object W Q)) → ((x : Name) → constant_of (there x) ≡ constant_of (here x)) → (e : Tree Name expression)
     → constant_value (named there) e ≡ constant_value (named here) e
 constant_value-alike there here same e =

@@ -29,7 +29,8 @@ holds-then : {A B : Type 0} (P : B → Type 0) (o : Outcome A) (next : A → Out
 holds-then P (gives a) next each = each a
 holds-then P (ends e) next each = tt
 
--- a step that gives a scalar, then the next step
+-- If a step gives values with one property and the next step turns them into values with another, both steps together
+-- give values with the latter.
 holds-with : {A B : Type 0} (Q : A → Type 0) (P : B → Type 0) (o : Outcome A) (next : A → Outcome B) → Holds Q o → ((a : A) → Q a → Holds P (next a)) → Holds P (o >>= next)
 holds-with Q P (gives a) next h each = each a h
 holds-with Q P (ends e) next h each = tt
@@ -74,7 +75,7 @@ settled-scalar : (b : Bool) (v : Value) (o : Outcome Value) → IsScalarValue v 
 settled-scalar true v o h k = h
 settled-scalar false v o h k = k
 
--- a scalar has no parts
+-- A scalar has no parts, so following a path from it gives a scalar or no value.
 at_path-scalar : (steps : List Step) (v : Value) → IsScalarValue v → Holds IsScalarValue (or_stuck (at_path steps v))
 at_path-scalar [] v h = h
 at_path-scalar (s ∷ steps) (elements vs) h = absurd h
@@ -143,7 +144,7 @@ given-scalar (ends e) h = (None, refl)
 abbrev as_constant : Value → Object Place (Unit {0})
 as_constant v = a_constant v
 
--- constant expressions if names mean only scalars
+-- A constant expression whose names mean only scalars has a scalar value, or none.
 pub constant_value-scalar : {V P : Type 0} (objects : Name → Option (Object V P)) (cs : Constants) → ((x : Name) → constant_of (objects x) ≡ option_map scalar_value (cs x)) → (e : Tree Name expression)
     → (c : Option Scalar) × (constant_value (named objects) e ≡ option_map scalar_value c)
 unfolding constant_value

@@ -1,11 +1,10 @@
--- Values, places and the stores of two runs. In the first run, the ordinal of its record precedes
--- each field's name; in the second one, fields have other names.
--- In the first run a selector finds a field only in a value of the same record. The second run also
--- finds whatever the first one finds. So each step of the first run is stuck, or the second run
--- makes the same step. The tagged module is well-typed, so its run never gets stuck. Both the
--- original module and the module with other names are compared with the tagged one, so no typing of
--- the store is needed. The contents of both runs are functions of one thing (`value_by`,
--- `place_by`, `state_by`).
+-- The values, places and stores of two runs. In the first run, each field's name is tagged: the ordinal of its record
+-- precedes it. In the second run, fields have other names.
+-- In the first run a selector finds a field only in a value of the same record. The second run finds whatever the first
+-- one finds. So each step of the first run is stuck, or the second run makes the same step. The tagged module is
+-- well-typed, so its run never gets stuck. Both the original module and the module with other names are compared with
+-- the tagged one. So no typing of the store is needed. The contents of both runs are functions of one thing
+-- (`value_by`, `place_by`, `state_by`).
 use Rattle.std.proofs.Common.{◌≡◌, ℕ, suc, Bool, true, false, ◌&&◌, List, [], ◌∷◌, map, ◌⊎◌, inl, inr, if◌then◌else◌, ◌==◌, slice_get, slice_set, Some, None, Option, option_map, option_and_then, sym, refl, ap, ◌∙◌, subst, subst₂, eq-eqb}
 use Rattle.std.proofs.Math.Dec.{eqb-suc-suc, eqb-zero-suc}
 use Rattle.std.proofs.lemmas.Bool.{eqb-true}
@@ -17,7 +16,7 @@ use Rattle.ob0_language_fields.proofs.Bare.{bare}
 use Rattle.ob0_language_field_laws.specs.FieldLaws.{KeepsApart}
 use Rattle.ob0_language_field_laws.proofs.Apart.{choose-map}
 
--- the name of a field after the ordinal of its record, so that no two records share a name
+-- puts the ordinal of its record before a field's name, so that fields of different records never share a name
 abbrev pub tagged : FieldNames
 tagged None x = 0 ∷ x
 tagged (Some k) x = suc k ∷ x
@@ -25,7 +24,7 @@ tagged (Some k) x = suc k ∷ x
 pub tagged-apart : KeepsApart tagged
 tagged-apart k x y = ap (λ b. b && same_name x y) (eq-eqb (suc k) (suc k) refl)
 
--- values with their fields under other names
+-- Returns a value, its elements or its members with all fields under other names.
 abbrev mutual
   pub value_by : FieldNames → Value → Value
   value_by l (number n) = number n
@@ -41,7 +40,7 @@ abbrev mutual
   members_by l k no_member = no_member
   members_by l k (next_member x v rest) = next_member (l (Some k) x) (value_by l v) (members_by l k rest)
 
--- a step of a path; a field has the ordinal of the record that it is selected from
+-- a step of a path; a step to a field has the ordinal of the record from which the field is selected
 pub data Move : Type 0 where
   to_index : ℕ → Move
   to_field : Option ℕ → Name → Move
@@ -60,7 +59,7 @@ place_by l p = record { variable = p.variable; path = map (step_by l) p.moves }
 abbrev pub store_by : FieldNames → Store → Store
 store_by l store = map (value_by l) store
 
--- states that the second run finds whatever the first one finds
+-- holds if the second run finds whatever the first one finds
 abbrev pub Finds : {A X Y : Type 0} → (A → X) → (A → Y) → Option X → Option Y → Type 0
 Finds f g None o = Unit {0}
 Finds f g (Some x) None = ⊥
@@ -82,7 +81,7 @@ finds-made f g f' g' None o₂ n₁ n₂ n h e₁ e₂ = tt
 finds-made f g f' g' (Some x) None n₁ n₂ n h e₁ e₂ = absurd h
 finds-made f g f' g' (Some x) (Some y) n₁ n₂ n h e₁ e₂ = (n h.0, ap n₁ h.1 ∙ e₁ h.0, ap n₂ h.2 ∙ e₂ h.0)
 
--- parts of a value
+-- If fields get other names, only these names change in the elements and members of a value.
 
 pub nth_value-by : (l : FieldNames) (vs : Values) (i : ℕ) → nth_value (values_by l vs) i ≡ option_map (value_by l) (nth_value vs i)
 nth_value-by l (next_value v rest) (suc i) = nth_value-by l rest i
@@ -111,13 +110,13 @@ with_named_member-by l apart k (next_member y v rest) x new =
     (λ i. if apart k x y i then next_member (l (Some k) y) (value_by l new) (members_by l k rest) else next_member (l (Some k) y) (value_by l v) (with_named_member-by l apart k rest x new i))
     ∙ choose-member l k (same_name x y) (next_member y new rest) (next_member y v (with_named_member rest x new))
 
--- a tagged field belongs only to its own record
+-- A value of one record has no field that is tagged with another record.
 pub other-tag : (k : ℕ) (ms : Members) (o : Option ℕ) (x : Name) → ((y : Name) → same_name (tagged o x) (tagged (Some k) y) ≡ false) → named_member (members_by tagged k ms) (tagged o x) ≡ None
 other-tag k no_member o x differs = refl
 other-tag k (next_member y v rest) o x differs =
     ap (λ b. if b then Some (value_by tagged v) else named_member (members_by tagged k rest) (tagged o x)) (differs y) ∙ other-tag k rest o x differs
 
--- a step that both runs make, and the value after its part is written
+-- holds if a step selects and replaces the same part of a value when its fields have other names
 pub record Moved (l : FieldNames) (v : Value) (m : Move) : Type 0 where
   pub reached : part (value_by l v) (step_by l m) ≡ option_map (value_by l) (part v (step_by bare m))
   pub written : (new : Value) → with_part (value_by l v) (step_by l m) (value_by l new) ≡ value_by l (with_part v (step_by bare m) new)
@@ -128,7 +127,7 @@ moved-index l vs i = record { reached = nth_value-by l vs i; written = λ new. a
 pub moved-field : (l : FieldNames) → KeepsApart l → (k : ℕ) (ms : Members) (x : Name) → Moved l (members k ms) (to_field (Some k) x)
 moved-field l apart k ms x = record { reached = named_member-by l apart k ms x; written = λ new. ap (members k) (with_named_member-by l apart k ms x new) }
 
--- states that the first run finds nothing, or both make the step
+-- holds if the first run finds nothing, or both runs make the step
 abbrev pub Reaches : FieldNames → Value → Move → Type 0
 Reaches l v m = (part (value_by tagged v) (step_by tagged m) ≡ None) ⊎ (Moved tagged v m × Moved l v m)
 
@@ -149,7 +148,7 @@ part-finds l apart v m = go (reaches l apart v m)
     go (inl e) = subst (λ o. Finds (value_by tagged) (value_by l) o (part (value_by l v) (step_by l m))) (sym e) tt
     go (inr h) = subst₂ (λ o p. Finds (value_by tagged) (value_by l) o p) (sym h.0.reached) (sym h.1.reached) (finds-map (value_by tagged) (value_by l) (part v (step_by bare m)))
 
--- paths
+-- The second run finds a part at a path if the first run finds one.
 
 pub at_path-finds : (l : FieldNames) → KeepsApart l → (moves : List Move) (v : Value) → Finds (value_by tagged) (value_by l) (at_path (map (step_by tagged) moves) (value_by tagged v)) (at_path (map (step_by l) moves) (value_by l v))
 at_path-finds l apart [] v = (v, refl, refl)
@@ -157,7 +156,7 @@ at_path-finds l apart (m ∷ moves) v =
     finds-then (value_by tagged) (value_by l) (value_by tagged) (value_by l) (part (value_by tagged v) (step_by tagged m)) (part (value_by l v) (step_by l m)) (at_path (map (step_by tagged) moves)) (at_path (map (step_by l) moves)) (part-finds l apart v m)
     (λ w. at_path-finds l apart moves w)
 
--- the rest of a write along a path, inside one part of a value
+-- replaces the rest of a path within one part of a value
 abbrev pub following_part : FieldNames → List Move → Value → Value → Move → Option Value → Option Value
 following_part l moves new v m o = option_and_then (λ old. option_map (with_part (value_by l v) (step_by l m)) (with_at_path (map (step_by l) moves) (value_by l new) old)) o
 
@@ -178,7 +177,7 @@ with_at_path-finds l apart (m ∷ moves) new v =
         (finds-made (value_by tagged) (value_by l) (value_by tagged) (value_by l) (with_at_path (map (step_by tagged) moves) (value_by tagged new) (value_by tagged old)) (with_at_path (map (step_by l) moves) (value_by l new) (value_by l old))
         (with_part (value_by tagged v) (step_by tagged m)) (with_part (value_by l v) (step_by l m)) (with_part v (step_by bare m)) (below old) h.0.written h.1.written)
 
--- the store
+-- Looking up and replacing variables of the store does the same in both runs.
 
 pub slice_set-by : (l : FieldNames) (store : Store) (n : ℕ) (new : Value) → slice_set (store_by l store) n (value_by l new) ≡ store_by l (slice_set store n new)
 slice_set-by l (v ∷ store) (suc n) new = λ i. value_by l v ∷ slice_set-by l store n new i

@@ -1,21 +1,20 @@
-//! The laws of fields. Each function has an empty body: its contract is the law.
+//! The laws of fields under other names. Each function does nothing; its contract is the law.
 
 ghost use Rattle.ob0_language_field_laws.specs.FieldLaws.{FreeFieldKeepsModules, RefieldingKeepsFitting, RefieldingKeepsModules};
 
-/// States that renaming fields doesn't change whether a module's declarations and statements are
-/// well-typed, if different fields of a record keep different names.
+/// Proves that renaming fields doesn't change whether a module's declarations and statements are well-typed. Different
+/// fields of a record must keep different names.
 pub fn refielding_keeps_fitting()
     ensures { RefieldingKeepsFitting }
 {}
 
-/// States that a well-typed module remains well-typed and has the same runs after its fields are
-/// renamed, if different fields of a record keep different names.
+/// Proves that a well-typed module remains well-typed and has the same runs after its fields are renamed. Different
+/// fields of a record must keep different names.
 pub fn refielding_keeps_modules()
     ensures { RefieldingKeepsModules }
 {}
 
-/// States that a well-typed module remains well-typed and has the same runs after a field is
-/// renamed to a free name.
+/// Proves that a well-typed module remains well-typed and has the same runs after a field is renamed to a free name.
 pub fn free_field_keeps_modules()
     ensures { FreeFieldKeepsModules }
 {}

@@ -1,5 +1,5 @@
-//! Laws of fields: well-typed modules remain well-typed and have the same runs after the fields of
-//! records are renamed.
+//! Laws of fields under other names: a well-typed module remains well-typed and has the same runs after the fields of
+//! its records are renamed.
 #![tactic(auto)]
 
 pub mod laws;

@@ -1,4 +1,4 @@
--- Two ways to name fields give the same module if it is well-typed and they agree on each field
+-- Two functions for the names of fields give the same module, if the module is well-typed and both agree on each field
 -- that its records declare.
 use Rattle.std.proofs.Common.{◌≡◌, ℕ, suc, ◌+◌, true, false, ◌&&◌, List, [], ◌∷◌, ◌++◌, map, if◌then◌else◌, nat_le, Some, None, Option, option_and_then, sym, refl, ap, ◌∙◌, subst}
 use Rattle.ob0_tree.specs.Tree.{Tree, addend, adds, arguments, array_type, assigns, branches, calls, compares, designator, else_branch, else_part, elsif_branch, elsif_part, empty, end, expression, factor, field, fields, further_argument, further_fields, further_name, further_statement, index, integer, items, listed, maybe, more, multiplier, multiplies, named_type, names, negation, no_arguments, no_fields, none, one, parenthesised, product, record_type, relates, repeat_loop, runs, selector, sequence, simple, some_arguments, some_fields, statement, sum, term, then_argument, then_fields, then_name, then_statement, while_loop, written_type}
@@ -18,8 +18,8 @@ use Rattle.ob0_language_fields.specs.Fields.{FieldNames, selected_record, refiel
 use Rattle.ob0_language_fields.specs.Renaming.{RecordFields, records_in_group, records_in_groups, records_in_type}
 use Rattle.ob0_language_fields.proofs.NamesMeant.{named}
 
--- states that two ways to name fields agree: on the fields of a list, of the records of a text, and
--- of the records in a type
+-- Holds if two functions for the names of fields agree: on the fields of a list, of the records of a text, and of the
+-- records in a type.
 abbrev pub NamesAgree : FieldNames → FieldNames → ℕ → List Name → Type 0
 NamesAgree p q k [] = Unit {0}
 NamesAgree p q k (x ∷ xs) = (p (Some k) x ≡ q (Some k) x) × NamesAgree p q k xs
@@ -47,7 +47,8 @@ pub records-split : (p q : FieldNames) (xs ys : List RecordFields) → RecordsAg
 records-split p q [] ys h = (tt, h)
 records-split p q (x ∷ xs) ys h = let g = records-split p q xs ys h.1 in ((h.0, g.0), g.1)
 
--- the types after selectors
+-- If two functions for the names of fields agree on a type, they agree on each field of that type and on the field's
+-- type.
 
 field-agrees : (p q : FieldNames) (k : ℕ) (fs : FieldShapes) (x : Name) (s : Shape) → FieldsAgree p q k fs → shape_of_field fs x ≡ Some s → (p (Some k) x ≡ q (Some k) x) × ShapeAgrees p q s
 field-agrees p q k no_field_shape x s agrees h = absurd (cc)
@@ -67,7 +68,7 @@ element_type-agrees : (p q : FieldNames) (s j u : Shape) → ShapeAgrees p q s �
 element_type-agrees p q (array_shape k n s) integer_shape u agrees h = (h, of_some (ShapeAgrees p q) h agrees)
 element_type-agrees p q _ _ u agrees h = absurd (cc)
 
--- the meanings of names
+-- holds if two functions for the names of fields agree on the types in the meaning of a name
 
 abbrev pub ObjectAgrees : FieldNames → FieldNames → Object Shape Signature → Type 0
 ObjectAgrees p q (a_type s) = ShapeAgrees p q s
@@ -105,7 +106,7 @@ type_of_name-agrees p q (Some (a_variable t)) s agrees h = absurd (cc)
 type_of_name-agrees p q (Some (a_procedure t)) s agrees h = absurd (cc)
 type_of_name-agrees p q (Some (a_standard t)) s agrees h = absurd (cc)
 
--- expressions that have a type
+-- An expression that has a type is the same under two functions that agree on the meanings of its names.
 
 mutual
   unfolding type_of
@@ -164,7 +165,7 @@ mutual
       let f = element_type-agrees p q t j u agrees eu in
       λ i. more (index (expression-alike p q objects known e j ej i)) (subst (λ o. refield p (named objects) o rest ≡ refield q (named objects) o rest) (sym f.0) (path-alike p q objects known u rest s f.1 h₂) i)
 
--- arguments
+-- If the argument of a VAR parameter is a variable of some type, the argument has this type.
 
 pub lone_designator-typed : (objects : Name → Option (Object Shape Signature)) (e : Tree Name expression) (s : Shape) → variable_type (named objects) (lone_designator e) ≡ Some s → type_of (named objects) e ≡ Some s
 unfolding type_of variable_type
@@ -203,7 +204,7 @@ arguments-alike p q meaning none h = refl
 arguments-alike p q meaning (one no_arguments) h = refl
 arguments-alike p q meaning (one (some_arguments e es)) h = λ i. one (some_arguments (h.0 i) (further-alike p q meaning es h.1 i))
 
--- well-typed statements
+-- Well-typed statements are the same under two functions that agree on the meanings of their names.
 
 condition-alike : (p q : FieldNames) (objects : Name → Option (Object Shape Signature)) → ObjectsAgree p q objects → (e : Tree Name expression) → condition_fits (named objects) e ≡ true → refield p (named objects) None e ≡ refield q (named objects) None e
 unfolding condition_fits
@@ -254,7 +255,7 @@ mutual
   else-alike p q objects known none h = refl
   else-alike p q objects known (one (else_branch statements)) h = λ i. one (else_branch (sequence-alike p q objects known statements h i))
 
--- types
+-- The text of a type is the same under two functions that agree on its records.
 
 further_names-alike : (p q : FieldNames) (k : ℕ) (xs : Tree Name (items further_name)) → NamesAgree p q k (further_names xs) → with_names (λ x. x) (p (Some k)) xs ≡ with_names (λ x. x) (q (Some k)) xs
 further_names-alike p q k end h = refl

@@ -1,5 +1,5 @@
--- Blocks and modules: two ways to name fields give the same module if it is well-typed and they
--- agree on each field that its records declare.
+-- Two functions for the names of fields give the same block and the same module. The module must be well-typed, and
+-- both functions must agree on each field that its records declare.
 use Rattle.std.proofs.Common.{◌≡◌, ℕ, ◌+◌, true, false, ◌&&◌, List, [], ◌∷◌, ◌++◌, map, Some, None, option_and_then, unwrap_or, sym, refl, ap, subst}
 use Rattle.ob0_tree.specs.Tree.{Tree, begins, block, body, constant, declares, declares_constant, declares_procedure, declares_type, declares_types, declares_variable, declares_variables, end, formals, further_section, has_body, is_module, item, items, maybe, module_text, more, no_formals, none, one, procedure, section, some_formals, then_section, type_name, type_names, value_section, variable, variable_section, variables}
 use Rattle.ob0_language_names.specs.Names.{Name, as_names, same_name}
@@ -18,7 +18,7 @@ use Rattle.ob0_language_fields.specs.Renaming.{records, records_in_block, record
 use Rattle.ob0_language_fields.proofs.AgreeingFields.{ObjectsAgree, ObjectAgrees, OptionAgrees, RecordsAgree, ShapeAgrees, denoted-agrees, records-split, sequence-alike, type-alike}
 use Rattle.ob0_language_fields.proofs.NamesMeant.{parameter_of, object_in}
 
--- environments
+-- holds if two functions for the names of fields agree on all types of an environment
 
 abbrev pub EnvironmentAgrees : FieldNames → FieldNames → TypeEnvironment Name → Type 0
 EnvironmentAgrees p q [] = Unit {0}
@@ -41,7 +41,7 @@ bind_typed-agrees : (p q : FieldNames) (ps : List (TypedParameter Name)) (env : 
 bind_typed-agrees p q [] env h k = k
 bind_typed-agrees p q (a ∷ ps) env h k = bind_typed-agrees p q ps ((a.name, a_variable a.formal.shape) ∷ env) h.1 (h.0, k)
 
--- declarations
+-- Declarations make bindings on which two functions agree, if they agree on the environment and the declared records.
 
 constants-agree : (p q : FieldNames) (env : TypeEnvironment Name) (cs : Tree Name (items constant)) (after : TypeEnvironment Name) → EnvironmentAgrees p q env → declare_constants as_names env cs ≡ Some after → EnvironmentAgrees p q after
 unfolding declare_constants
@@ -83,7 +83,7 @@ parameters-agree p q env k (more (then_section f) fs) ps h r e =
     (parameters-join p q (section_mode f) s (section_names f) rest agrees
     (parameters-agree p q (bind_names (section_names f) (a_variable s) env) (k + constructors (section_type f)) fs rest (bind_names-agree p q (section_names f) (a_variable s) env agrees h) r₁.1 er))
 
--- the texts of declarations
+-- The texts of declarations are the same under two functions that agree on their records.
 
 types-alike : (p q : FieldNames) (k : ℕ) (ds : Tree Name (items type_name)) → RecordsAgree p q (records_in_types k ds) → refield_types p k ds ≡ refield_types q k ds
 types-alike p q k end r = refl
@@ -123,7 +123,7 @@ formals-alike p q k (one (some_formals f fs)) r =
 procedure-records : (p q : FieldNames) (k : ℕ) (a : Tree Name (item procedure)) → RecordsAgree p q (records_in_procedure k a) → RecordsAgree p q (records_in_sections k (procedure_formals a))
 procedure-records p q k (declares_procedure x fs b closing) r = (records-split p q (records_in_sections k (formal_sections fs)) (records_in_block (after_formals k (declares_procedure x fs b closing)) b) r).0
 
--- blocks
+-- A well-typed block is the same under two functions that agree on its environment and its records.
 
 body-alike : (p q : FieldNames) (env : TypeEnvironment Name) (statements : Tree Name (maybe body)) → EnvironmentAgrees p q env → body_fits as_names env statements ≡ true
     → refield p (meanings as_names env) None statements ≡ refield q (meanings as_names env) None statements

@@ -1,4 +1,4 @@
--- If each field gets its present name, nothing changes.
+-- If each field gets its present name, the module doesn't change.
 use Rattle.std.proofs.Common.{◌≡◌, ℕ, suc, ◌+◌, None, Option, refl}
 use Rattle.ob0_tree.specs.Tree.{Sort, Tree, adds, array_type, assigns, begins, block, branches, calls, compares, declares, declares_procedure, declares_type, declares_types, declares_variable, declares_variables, designator, else_branch, elsif_branch, end, field, fields, formals, further_fields, further_section, has_body, index, is_module, item, items, maybe, module_text, more, multiplies, named_type, negation, no_fields, no_formals, none, one, parenthesised, procedure, product, record_type, relates, repeat_loop, runs, section, some_arguments, some_fields, some_formals, sum, then_argument, then_fields, then_section, then_statement, type_name, type_names, value_section, variable, variable_section, variables, while_loop, written_type}
 use Rattle.ob0_language_names.specs.Names.{Name, as_names}
@@ -11,7 +11,7 @@ use Rattle.ob0_language_types.specs.WellTyped.{TypeEnvironment, Typed, bind_type
 use Rattle.ob0_language_values.specs.Values.{Shape}
 use Rattle.ob0_language_fields.specs.Fields.{FieldNames, type_after, types_after_heading, types_after_procedures, types_after_variables, parameters_of, refield, refield_block, refield_formals, refield_group, refield_groups, refield_procedure, refield_procedures, refield_section, refield_sections, refield_type, refield_type_section, refield_types, refield_variable_section, refield_variables, refielded}
 
--- the naming that gives each field its present name
+-- the function that gives each field its present name
 abbrev pub bare : FieldNames
 bare owner x = x
 

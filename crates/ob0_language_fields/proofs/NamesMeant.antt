@@ -1,5 +1,4 @@
--- The meanings of names: as a function of the name, and in an environment; and a parameter from its
--- mode, type and name.
+-- The meanings of names as a function of the name, and in an environment.
 use Rattle.std.specs.Prelude.{Option}
 use Rattle.ob0_language_names.specs.Names.{Name, as_names}
 use Rattle.ob0_language_types.specs.Environments.{from_binding, newest}
@@ -7,14 +6,14 @@ use Rattle.ob0_language_types.specs.Expressions.{Meanings, Object}
 use Rattle.ob0_language_types.specs.WellTyped.{Mode, Signature, TypeEnvironment, TypedParameter}
 use Rattle.ob0_language_values.specs.Values.{Shape}
 
--- the meanings that a function gives, with fields named as they are written
+-- makes meanings from a function; fields are spelled as they are written
 abbrev pub named : {V P : Type 0} → (Name → Option (Object V P)) → Meanings Name V P
 named objects = record { object_for = objects; written = λ x. x }
 
--- the object that a name means in an environment
+-- returns the object that a name means in an environment; None if it isn't bound
 abbrev pub object_in : TypeEnvironment Name → Name → Option (Object Shape Signature)
 object_in env x = newest (from_binding as_names env x)
 
--- a parameter with this mode, type and name
+-- returns a parameter with this mode, type and name
 abbrev pub parameter_of : Mode → Shape → Name → TypedParameter Name
 parameter_of m s x = record { name = x; formal = record { mode = m; shape = s } }

@@ -1,4 +1,4 @@
--- Worked renames of fields: which identifiers get the new name, and which new names are free.
+-- Worked examples of renaming fields: the identifiers that get the new name, and the new names that are free.
 use Rattle.std.proofs.Common.{◌≡◌, true, [], ◌∷◌, None, codes, refl}
 use Rattle.ob0_tree.specs.Tree.{Tree, adds, array_type, assigns, begins, calls, declares, declares_procedure, declares_type, declares_types, declares_variable, declares_variables, designator, end, field, has_body, index, integer, is_module, listed, module_text, more, named_type, none, one, product, record_type, runs, some_arguments, some_fields, some_formals, sum, compares, then_argument, then_fields, then_name, then_section, then_statement, value_section, variable_section}
 use Rattle.ob0_tree.specs.declared.tree.AddOperator.TheVariants as add_operator
@@ -23,7 +23,7 @@ first_record-renamed = refl
 pub records-of_two : records worked.records ≡ record { ordinal = 0; declared = codes "a" ∷ codes "b" ∷ [] } ∷ record { ordinal = 1; declared = codes "a" ∷ [] } ∷ []
 records-of_two = refl
 
--- the field a can be renamed to c, to r and to a itself, and in the second record to b
+-- The field a of the first record can be renamed to c, to r and to a itself, and the field a of the second record to b.
 pub to_c-free : FieldFree worked.records 0 (codes "a") (codes "c")
 to_c-free = refl
 
@@ -36,7 +36,7 @@ to_itself-free = refl
 pub second_record-free : FieldFree worked.records 1 (codes "a") (codes "b")
 second_record-free = refl
 
--- the field a of R can't be renamed to b, because R has another field b
+-- The field a of the first record can't be renamed to b, because this record has another field b.
 pub to_b-taken : is_duplicate_field worked.records 0 (codes "a") (codes "b") ≡ true
 to_b-taken = refl
 
@@ -65,7 +65,7 @@ pub inner-renamed : field_renamed (nested (codes "x") (codes "x")) 2 (codes "x")
 unfolding declare_first declare_typed typed_parameters
 inner-renamed = refl
 
--- an array has no fields
+-- An array has no fields. So renaming a field of the type with an array's ordinal changes nothing.
 pub array-renamed : field_renamed (nested (codes "x") (codes "x")) 1 (codes "x") (codes "y") ≡ nested (codes "x") (codes "x")
 unfolding declare_first declare_typed typed_parameters
 array-renamed = refl

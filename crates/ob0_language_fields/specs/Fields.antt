@@ -1,5 +1,4 @@
--- Fields of records under other names, both at their declarations and in the selectors that select
--- them.
+-- Modules whose fields have other names, both where records declare them and where selectors select them.
 -- Rule: docs/LANGUAGE.md, Scopes 7.
 use Rattle.std.specs.Prelude.{ℕ, suc, ◌+◌, List, [], Some, None, Option, option_and_then, unwrap_or}
 use Rattle.ob0_tree.specs.Tree.{Item, Sort, Tree, adds, array_type, assigns, begins, block, branches, calls, compares, declares, declares_procedure, declares_type, declares_types, declares_variable, declares_variables, designator, else_branch, elsif_branch, end, field, fields, formals, further_fields, further_section, has_body, index, is_module, item, items, maybe, module_text, more, multiplies, named_type, negation, no_fields, no_formals, none, one, parenthesised, procedure, product, record_type, relates, repeat_loop, runs, section, some_arguments, some_fields, some_formals, sum, then_argument, then_fields, then_section, then_statement, type_name, type_names, value_section, variable, variable_section, variables, while_loop, written_type}
@@ -12,12 +11,12 @@ use Rattle.ob0_language_types.specs.Typing.{constructors, element_type, field_ty
 use Rattle.ob0_language_types.specs.WellTyped.{TypeEnvironment, Typed, TypedParameter, bind_typed, declare_typed, heading, typed_parameters}
 use Rattle.ob0_language_values.specs.Values.{Shape, array_shape, boolean_shape, integer_shape, record_shape}
 
--- the new name of a field, given the ordinal of its record (None if the record is unknown) and its
--- present name
+-- A function that returns the new name of a field. Its arguments are the ordinal of the field's record (None if the
+-- record is unknown) and its present name.
 abbrev pub FieldNames : Type 0
 FieldNames = Option ℕ → Name → Name
 
--- the ordinal of the record whose field a selector after this type selects, if it is a record
+-- returns the ordinal of a record type; None for any other type, or without a type
 abbrev pub selected_record : Option Shape → Option ℕ
 selected_record None = None
 selected_record (Some integer_shape) = None
@@ -25,14 +24,14 @@ selected_record (Some boolean_shape) = None
 selected_record (Some (array_shape k n s)) = None
 selected_record (Some (record_shape k fs)) = Some k
 
--- the type after one more selector
+-- returns the type of a designator after one more selector
 abbrev pub type_after : {i : Item} → Option Shape → Tree Name (item i) → Option Shape
 type_after s (field x) = option_and_then (λ t. field_type t x) s
 type_after s (index e) = option_and_then (λ t. element_type t integer_shape) s
 type_after s _ = s
 
--- a part of a statement with its fields under other names; the record of a selector's field is the
--- type before the selector, and s is the type before the first selector
+-- Returns a part of a statement with its fields under other names. The record of a selected field is the type before
+-- its selector, and `s` is the type before the first selector.
 abbrev pub refield : {s : Sort} → FieldNames → Typed Name → Option Shape → Tree Name s → Tree Name s
 refield l meaning s (more t ts) =
     more (refield l meaning s t) (refield l meaning (type_after s t) ts)
@@ -75,11 +74,11 @@ refield l meaning s (else_branch a) = else_branch (refield l meaning None a)
 refield l meaning s (begins a) = begins (refield l meaning None a)
 refield l meaning s t = t
 
--- the text of a type with its declared fields under other names; k is the ordinal of its first
--- ARRAY or RECORD, and r the ordinal of the group's record. The length of an array is a constant
--- expression and has no selectors
+-- Returns the text of a type with its declared fields under other names. `k` is the ordinal of the first ARRAY or
+-- RECORD of the part, and `r` the ordinal of the group's record. The length of an array is a constant expression and
+-- has no selectors.
 abbrev mutual
-  -- a type as it is written
+  -- returns a written type with its fields under other names
   pub refield_type : FieldNames → ℕ → Tree Name written_type → Tree Name written_type
   refield_type l k (named_type x) = named_type x
   refield_type l k (array_type e t) = array_type e (refield_type l (suc k) t)
@@ -87,13 +86,13 @@ abbrev mutual
       record_type (refield_group l k (suc k) g)
       (refield_groups l k (suc k + group_constructors g) rest)
 
-  -- a group of fields of the record r
+  -- returns a group of fields of the record `r`, with these and the fields in their type under other names
   pub refield_group : FieldNames → ℕ → ℕ → Tree Name fields → Tree Name fields
   refield_group l r k no_fields = no_fields
   refield_group l r k (some_fields ns t) =
       some_fields (with_names (λ x. x) (l (Some r)) ns) (refield_type l k t)
 
-  -- further groups of fields of the record r
+  -- returns further groups of fields of the record `r`, with all fields under other names
   pub refield_groups : FieldNames
       → ℕ
       → ℕ
@@ -104,7 +103,7 @@ abbrev mutual
       more (then_fields (refield_group l r k g))
       (refield_groups l r (k + group_constructors g) rest)
 
--- declarations of types with their fields under other names
+-- returns declarations of types with their fields under other names
 abbrev pub refield_types : FieldNames
     → ℕ
     → Tree Name (items type_name)
@@ -113,7 +112,7 @@ refield_types l k end = end
 refield_types l k (more (declares_type x u) ds) =
     more (declares_type x (refield_type l k u)) (refield_types l (k + constructors u) ds)
 
--- a TYPE section with its fields under other names
+-- returns a TYPE section with its fields under other names
 abbrev pub refield_type_section : FieldNames
     → ℕ
     → Tree Name (maybe type_names)
@@ -121,7 +120,7 @@ abbrev pub refield_type_section : FieldNames
 refield_type_section l k none = none
 refield_type_section l k (one (declares_types ts)) = one (declares_types (refield_types l k ts))
 
--- declarations of variables with their fields under other names
+-- returns declarations of variables with their fields under other names
 abbrev pub refield_variables : FieldNames
     → ℕ
     → Tree Name (items variable)
@@ -130,7 +129,7 @@ refield_variables l k end = end
 refield_variables l k (more (declares_variable ns u) gs) =
     more (declares_variable ns (refield_type l k u)) (refield_variables l (k + constructors u) gs)
 
--- a VAR section with its fields under other names
+-- returns a VAR section with its fields under other names
 abbrev pub refield_variable_section : FieldNames
     → ℕ
     → Tree Name (maybe variables)
@@ -139,12 +138,12 @@ refield_variable_section l k none = none
 refield_variable_section l k (one (declares_variables vs)) =
     one (declares_variables (refield_variables l k vs))
 
--- a section of parameters with its fields under other names
+-- returns a section of parameters with its fields under other names
 abbrev pub refield_section : FieldNames → ℕ → Tree Name section → Tree Name section
 refield_section l k (value_section ns u) = value_section ns (refield_type l k u)
 refield_section l k (variable_section ns u) = variable_section ns (refield_type l k u)
 
--- further sections of parameters with their fields under other names
+-- returns further sections of parameters with their fields under other names
 abbrev pub refield_sections : FieldNames
     → ℕ
     → Tree Name (items further_section)
@@ -154,7 +153,7 @@ refield_sections l k (more (then_section f) fs) =
     more (then_section (refield_section l k f))
     (refield_sections l (k + constructors (section_type f)) fs)
 
--- formal parameters with their fields under other names
+-- returns formal parameters with their fields under other names
 abbrev pub refield_formals : FieldNames → ℕ → Tree Name (maybe formals) → Tree Name (maybe formals)
 refield_formals l k none = none
 refield_formals l k (one no_formals) = one no_formals
@@ -162,28 +161,27 @@ refield_formals l k (one (some_formals f fs)) =
     one (some_formals (refield_section l k f)
     (refield_sections l (k + constructors (section_type f)) fs))
 
--- the environment after a block's constants, types and variables, or `env` if one of these has an
--- error
+-- returns the environment after a block's constants, types and variables, or `env` if one of these has an error
 abbrev pub types_after_variables : TypeEnvironment Name → ℕ → Tree Name block → TypeEnvironment Name
 types_after_variables env k b =
     unwrap_or (option_and_then (declare_typed as_names (after_types k b) (block_variables b))
     (declare_first as_names env k b)) env
 
--- the parameters of a procedure; empty if one has an error
+-- returns the parameters of a procedure; empty if one has an error
 abbrev pub parameters_of : TypeEnvironment Name
     → ℕ
     → Tree Name (item procedure)
     → List (TypedParameter Name)
 parameters_of env k p = unwrap_or (typed_parameters as_names env k (procedure_formals p)) []
 
--- the environment after a procedure's heading
+-- returns the environment after a procedure's heading
 abbrev pub types_after_heading : TypeEnvironment Name
     → ℕ
     → Tree Name (item procedure)
     → TypeEnvironment Name
 types_after_heading env k p = heading (procedure_name p) (parameters_of env k p) env
 
--- the environment after procedures
+-- returns the environment after procedures
 abbrev pub types_after_procedures : TypeEnvironment Name
     → ℕ
     → Tree Name (items procedure)
@@ -192,10 +190,10 @@ types_after_procedures env k end = env
 types_after_procedures env k (more p rest) =
     types_after_procedures (types_after_heading env k p) (k + procedure_constructors p) rest
 
--- a block with its fields under other names; k is the ordinal of its first ARRAY or RECORD, and
--- constants have no fields
+-- Returns a block with its fields under other names. `k` is the ordinal of the first ARRAY or RECORD of the part.
+-- Constants have no fields.
 abbrev mutual
-  -- a block: its types, its variables, its procedures and its statements
+  -- returns a block with the fields of its types, variables, procedures and statements under other names
   pub refield_block : FieldNames → TypeEnvironment Name → ℕ → Tree Name block → Tree Name block
   refield_block l env k (has_body (declares cs ts vs ps) statements) =
       has_body
@@ -208,7 +206,7 @@ abbrev mutual
       (types_after_variables env k (has_body (declares cs ts vs ps) statements))
       (after_variables k (has_body (declares cs ts vs ps) statements)) ps)) None statements)
 
-  -- procedures; each is visible to those after it
+  -- returns procedures with their fields under other names; each procedure is visible to the later ones
   pub refield_procedures : FieldNames
       → TypeEnvironment Name
       → ℕ
@@ -220,7 +218,7 @@ abbrev mutual
       p)
       (refield_procedures l (types_after_heading env k p) (k + procedure_constructors p) rest)
 
-  -- a procedure, given the environment of its block
+  -- returns a procedure with its fields under other names, given the environment of its block
   pub refield_procedure : FieldNames
       → TypeEnvironment Name
       → ℕ
@@ -230,6 +228,6 @@ abbrev mutual
       declares_procedure x (refield_formals l k fs)
       (refield_block l env (after_formals k (declares_procedure x fs b closing)) b) closing
 
--- a module with its fields under other names
+-- returns a module with its fields under other names
 abbrev pub refielded : FieldNames → Tree Name module_text → Tree Name module_text
 refielded l (is_module x b closing) = is_module x (refield_block l (outermost as_names) 0 b) closing

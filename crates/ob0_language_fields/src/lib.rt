@@ -1,3 +1,3 @@
-//! The fields of a module's records, with the record that each field identifier belongs to, and
-//! modules whose fields have other names: definitions, with lemmas.
+//! Definitions of the fields of a module's records, with the record that each field identifier belongs to, and of
+//! modules whose fields have other names. Lemmas about them.
 #![tactic(auto)]

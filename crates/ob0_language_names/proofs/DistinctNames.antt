@@ -1,8 +1,6 @@
--- Lists that have no name twice: the order doesn't matter, and a renaming to a free name keeps the
--- property.
--- A scope is a list with the newest binding first, so a block's scope has the block's names in
--- reverse text order. `onto xs ys` is xs reversed, followed by ys, and `onto (xs ++ ys) zs` is
--- `onto ys (onto xs zs)`.
+-- A list has no name twice exactly if it has none twice in any other order. Also, a renaming to a free name keeps names
+-- unique. A scope is a list with the newest binding first, so a block's scope has the block's names in reverse text
+-- order. `onto xs ys` is xs reversed, followed by ys, and `onto (xs ++ ys) zs` is `onto ys (onto xs zs)`.
 use Rattle.std.proofs.Common.{Bool, List, Some, [], ap, arith, eqb-true, falls, false, if◌then◌else◌, ne_eqb, not, refl, sym, true, ℕ, ◌&&◌, ◌++◌, ◌<◌, ◌==◌, ◌||◌, ◌∙◌, ◌∷◌, ◌≡◌, ◌≤◌}
 use Rattle.ob0_language_names.specs.DeclaredOnce.{are_distinct, is_among}
 use Rattle.ob0_language_names.specs.Names.{Name, same_name}
@@ -11,7 +9,7 @@ use Rattle.ob0_language_names.specs.Scopes.{Labels, Scope, same_ordinal}
 use Rattle.std.proofs.lemmas.Cmp.{nat_list_eq_equiv}
 use Rattle.std.proofs.lemmas.Bool.{and_parts, or_parts}
 
--- xs reversed, followed by ys
+-- returns `xs` reversed, followed by `ys`
 abbrev pub onto : {A : Type 0} → List A → List A → List A
 onto [] ys = ys
 onto (x ∷ xs) ys = onto xs (x ∷ ys)
@@ -48,7 +46,7 @@ pub distinct-onto : (xs ys : List Name) → are_distinct (onto xs ys) ≡ are_di
 distinct-onto [] ys = refl
 distinct-onto (x ∷ xs) ys = distinct-onto xs (x ∷ ys) ∙ distinct-middle x xs ys
 
--- the labels of a scope's names, newest first
+-- returns the labels of a scope's names, newest first
 abbrev pub labels_in : {N M : Type 0} → Labels N M → Scope N → List M
 labels_in label [] = []
 labels_in label (b ∷ scope) = label (Some b.1) b.0 ∷ labels_in label scope
@@ -59,7 +57,7 @@ own_name ordinal x = x
 abbrev pub new_name : ℕ → Name → Labels Name Name
 new_name d new ordinal x = if same_ordinal ordinal d then new else x
 
--- states that newer bindings have greater ordinals, and that all ordinals are below n
+-- holds if newer bindings have greater ordinals, and all ordinals are below `n`
 abbrev pub Falls : {N : Type 0} → ℕ → Scope N → Type 0
 Falls n [] = Unit {0}
 Falls n (b ∷ scope) = (b.1 < n) × Falls b.1 scope
@@ -75,7 +73,7 @@ labels_in-undeclared d new (b ∷ scope) h =
     let parts = or_parts (b.1 == d) (declares_ordinal scope d) h in
     λ i. (if parts.0 i then new else b.0) ∷ labels_in-undeclared d new scope parts.1 i
 
--- in a scope without d, the new name isn't among the names if no other declaration has it
+-- The new name isn't among the names of a scope without `d`, if no other declaration has it.
 pub new-apart : (d : ℕ) (new : Name) (scope : Scope Name) → declares_ordinal scope d ≡ false → names_another scope d new ≡ false → is_among new (labels_in own_name scope) ≡ false
 new-apart d new [] h g = refl
 new-apart d new (b ∷ scope) h g =
@@ -88,7 +86,7 @@ new-apart d new (b ∷ scope) h g =
     and-not true b e h = sym (ap not e) ∙ h
     and-not false b e h = refl
 
--- a name that differs from the new one, and isn't in the scope, isn't in the renamed scope either
+-- A name that differs from the new one and isn't in the scope isn't in the renamed scope either.
 pub other-apart : (d : ℕ) (new x : Name) (scope : Scope Name) → same_name x new ≡ false → is_among x (labels_in own_name scope) ≡ false → is_among x (labels_in (new_name d new) scope) ≡ false
 other-apart d new x [] e h = refl
 other-apart d new x (b ∷ scope) e h =
@@ -99,8 +97,8 @@ other-apart d new x (b ∷ scope) e h =
     either true h = e
     either false h = h
 
--- after d is renamed, a scope has no name twice if it had none before and no other declaration has
--- the new name
+-- After `d` is renamed, a scope has no name twice if it had none twice before and no other declaration has the new
+-- name.
 pub distinct-renamed-among : (d n : ℕ) (new : Name) (scope : Scope Name) → Falls n scope → names_another scope d new ≡ false → are_distinct (labels_in own_name scope) ≡ true → are_distinct (labels_in (new_name d new) scope) ≡ true
 distinct-renamed-among d n new [] falls g h = refl
 distinct-renamed-among d n new (b ∷ scope) falls g h =

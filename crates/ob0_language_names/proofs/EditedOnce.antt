@@ -1,4 +1,4 @@
--- If a module declares names once, the edited module does as well.
+-- The edited module declares names once if the original module does.
 use Rattle.std.proofs.Common.{Bool, List, [], ap, false, if◌then◌else◌, length, not, refl, suc, sym, true, ℕ, ◌&&◌, ◌++◌, ◌+◌, ◌==◌, ◌||◌, ◌∙◌, ◌∷◌, ◌≡◌}
 use Rattle.ob0_tree.specs.Tree.{Tree, array_type, block, constant, constants, declares, declares_constant, declares_constants, declares_procedure, declares_type, declares_types, declares_variable, declares_variables, end, fields, formals, further_fields, further_section, has_body, is_module, item, items, maybe, module_text, more, named_type, no_fields, no_formals, none, occurrences, one, procedure, record_type, some_fields, some_formals, then_fields, then_section, type_name, type_names, value_section, variable, variable_section, variables, written_type}
 use Rattle.ob0_language_names.specs.DeclaredOnce.{are_distinct, block_names, block_once, declared_once, fields_once, formals_once, group_fields, group_once, groups_fields, groups_once, is_among, procedure_names, procedure_once, procedures_once, types_once, variables_once}
@@ -8,7 +8,7 @@ use Rattle.ob0_language_names.specs.Scopes.{after_names, after_procedure, first_
 use Rattle.ob0_language_names.proofs.EditedTrees.{Edit, edited, edited_block, edited_constants, edited_procedure, edited_procedures, edited_section, leaf}
 use Rattle.std.proofs.lemmas.Bool.{and_from, and_parts, or_parts}
 
--- states that the first list has some of the names of the second one, in the same order
+-- holds if the first list has some of the names of the second one, in the same order
 pub data SomeOf : List Name → List Name → Type 0 where
   none_of : SomeOf [] []
   kept : {xs ys : List Name} → (x : Name) → SomeOf xs ys → SomeOf (x ∷ xs) (x ∷ ys)
@@ -41,7 +41,7 @@ some-distinct xs ys (kept {xs = xs'} {ys = ys'} x f) h =
     not-true false h = refl
 some-distinct xs ys (skipped {xs = xs'} {ys = ys'} y f) h = some-distinct xs' ys' f (and_parts (not (is_among y ys')) (are_distinct ys') h).1
 
--- the names of an edited block are some of the block's names
+-- The names of an edited block are some of the block's names.
 
 pub constant_names-edited : (edit : Edit) (j k : ℕ) (cs : Tree Name (items constant)) → SomeOf (constant_names (edited_constants edit j k cs)) (constant_names cs)
 constant_names-edited edit j k end = none_of
@@ -84,7 +84,7 @@ formal_names-leaf edit j none = refl
 formal_names-leaf edit j (one no_formals) = refl
 formal_names-leaf edit j (one (some_formals s fs)) = formal_names-listed edit j (more (then_section s) fs)
 
--- an edit leaves the names of fields unchanged
+-- An edit leaves the names of fields unchanged.
 
 group_fields-leaf : (edit : Edit) (j : ℕ) (g : Tree Name fields) → group_fields (leaf edit j g) ≡ group_fields g
 group_fields-leaf edit j no_fields = refl

@@ -1,6 +1,6 @@
--- A tree without uses isn't changed by inlining. Two namings that agree at a tree's occurrences
--- give the same tree. An edit of a module writes a literal in place of uses of a constant, removes
--- the constant's declaration, or does both or neither.
+-- Inlining doesn't change a tree without uses. Two namings that agree at a tree's occurrences give the same tree. An
+-- edit of a module writes a literal in place of uses of a constant, or removes the constant's declaration, or does both
+-- or neither.
 use Rattle.std.proofs.Common.{Bool, List, [], add-zero, ap, arith, eqb-true, false, if◌then◌else◌, length, ne_eqb, refl, subst, suc, sym, true, ℕ, ◌&&◌, ◌++◌, ◌+◌, ◌<◌, ◌==◌, ◌∙◌, ◌∷◌, ◌≡◌}
 use Rattle.ob0_tree.specs.Tree.{Sort, Tree, adds, array_type, assigns, begins, block, branches, calls, compares, constant, constants, declares, declares_constant, declares_constants, declares_procedure, declares_type, declares_types, declares_variable, declares_variables, designator, else_branch, elsif_branch, empty, end, factor, field, further_name, has_body, index, integer, is_module, item, items, listed, maybe, module_text, more, multiplies, named_type, names, negation, no_arguments, no_fields, no_formals, none, occurrences, one, parenthesised, procedure, product, record_type, relates, repeat_loop, runs, some_arguments, some_fields, some_formals, sum, then_argument, then_fields, then_name, then_section, then_statement, value_section, variable_section, while_loop}
 use Rattle.ob0_language_names.specs.Inlining.{Uses, block_without, inline_in, inlined, module_without, procedure_without, procedures_without, section_without, without}
@@ -150,8 +150,8 @@ with_names-same f g h (begins s) u = λ i. begins (with_names-same f g h s u i)
 with_names-same f g h (has_body ds b) u = let s0 = same-split f g (occurrences ds) (occurrences b) u in λ i. has_body (with_names-same f g h ds s0.0 i) (with_names-same f g h b s0.1 i)
 with_names-same f g h (is_module name b closing) u = λ i. is_module (h name) (with_names-same f g h b u i) (h closing)
 
--- an edit: the occurrences that the literal replaces, and whether the constant's declaration is
--- removed
+-- an edit: the occurrences that the literal replaces, the literal, the constant, and whether the constant's declaration
+-- is removed
 pub record Edit : Type 0 where
   pub uses : Uses
   pub literal : Tree Name factor
@@ -187,7 +187,7 @@ abbrev mutual
   edited_procedure edit j k (declares_procedure x fs b closing) =
       declares_procedure x (leaf edit j fs) (edited_block edit (j + length (occurrences fs)) (after_names k (formal_names (formal_sections fs))) b) closing
 
--- if no declaration is removed, an edited block is the block with the literals written in
+-- If no declaration is removed, an edited block is the block with the literals written in.
 
 abbrev pub writing : Uses → Tree Name factor → ℕ → Edit
 writing uses v d = record { uses = uses; literal = v; constant = d; gone = false }
@@ -217,7 +217,7 @@ mutual
   written-procedure uses v d j k (declares_procedure x fs b closing) = λ i.
       declares_procedure x (inline_in uses v j fs) (written-block uses v d (j + length (occurrences fs)) (after_names k (formal_names (formal_sections fs))) b i) closing
 
--- if there are no uses, an edited block is the block without the declaration
+-- If there are no uses, an edited block is the block without the declaration.
 
 abbrev pub no_uses : Uses
 no_uses k = false

@@ -1,4 +1,4 @@
--- The names of a tree that aren't whole factors, after the tree's names have been replaced.
+-- After the names of a tree are replaced, its names that aren't whole factors are the replaced ones.
 use Rattle.std.proofs.Common.{[], map, refl, ◌++◌, ◌∷◌, ◌≡◌}
 use Rattle.ob0_tree.specs.Tree.{Sort, Tree, adds, array_type, assigns, begins, branches, calls, compares, declares, declares_constant, declares_constants, declares_procedure, declares_type, declares_types, declares_variable, declares_variables, designator, else_branch, elsif_branch, empty, end, field, has_body, index, integer, is_module, listed, more, multiplies, named_type, negation, no_arguments, no_fields, no_formals, none, one, parenthesised, product, record_type, relates, repeat_loop, runs, some_arguments, some_fields, some_formals, sum, then_argument, then_fields, then_name, then_section, then_statement, value_section, variable_section, while_loop}
 use Rattle.ob0_language_names.specs.Elsewhere.{names_elsewhere}

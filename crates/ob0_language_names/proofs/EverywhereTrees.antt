@@ -1,5 +1,4 @@
--- Writing the literals and removing the declaration in one edit gives the same module as doing both
--- one after the other.
+-- Writing the literals and removing the declaration in one edit gives the same module as doing one after the other.
 use Rattle.std.proofs.Common.{ap, arith, eqb-true, false, if◌then◌else◌, length, ne_eqb, refl, suc, sym, true, ℕ, ◌+◌, ◌<◌, ◌==◌, ◌∙◌, ◌∷◌, ◌≡◌}
 use Rattle.ob0_tree.specs.Tree.{Tree, block, constant, constants, declares, declares_constant, declares_constants, declares_procedure, end, factor, has_body, is_module, item, items, maybe, module_text, more, none, occurrences, one, procedure}
 use Rattle.ob0_language_names.specs.Inlining.{Uses, block_without, inline_in, inlined, module_without, procedure_without, procedures_without, section_without, without}
@@ -20,7 +19,7 @@ section_names-inlined : (uses : Uses) (v : Tree Name factor) (j : ℕ) (cs : Tre
 section_names-inlined uses v j none = refl
 section_names-inlined uses v j (one (declares_constants cs)) = constant_names-inlined uses v j cs
 
--- inlining leaves the ordinals of a tree's declarations unchanged
+-- Inlining leaves the ordinals of a tree's declarations unchanged.
 pub first_procedure-inlined : (uses : Uses) (v : Tree Name factor) (d j k : ℕ) (b : Tree Name block) → first_procedure k (inline_in uses v j b) ≡ first_procedure k b
 first_procedure-inlined uses v d j k (has_body (declares cs ts vs ps) statements) = λ i.
     after_names (after_names (after_names k (section_names-inlined uses v j cs i)) (type_names-leaf (writing uses v d) (j + length (occurrences cs)) ts i)) (variable_names-leaf (writing uses v d) (j + length (occurrences cs) + length (occurrences ts)) vs i)

@@ -1,4 +1,4 @@
--- Equality of names: it is symmetric and reflexive.
+-- Equality of names is symmetric and reflexive.
 use Rattle.std.proofs.Common.{◌≡◌, true, sym, refl}
 use Rattle.std.proofs.lemmas.Bool.Decides.{same_from_decides}
 use Rattle.std.proofs.lemmas.Slice.Eq.{bytes_eq-Decides}

@@ -1,5 +1,5 @@
--- No occurrence that satisfies P remains after an inlining that replaces them all. Each such name
--- must be a whole factor, and the literal must have no such name.
+-- After an inlining that replaces all occurrences that satisfy `P`, no such occurrence remains. Each such name must be
+-- a whole factor, and the literal must have no such name.
 use Rattle.std.proofs.Common.{List, [], add-zero, arith, false, if◌then◌else◌, length, refl, subst, suc, sym, true, true≢false, ℕ, ◌++◌, ◌+◌, ◌∙◌, ◌∷◌, ◌≡◌}
 use Rattle.ob0_tree.specs.Tree.{Sort, Tree, adds, array_type, assigns, begins, branches, calls, compares, declares, declares_constant, declares_constants, declares_procedure, declares_type, declares_types, declares_variable, declares_variables, designator, else_branch, elsif_branch, empty, end, factor, field, has_body, index, integer, is_module, listed, more, multiplies, named_type, negation, no_arguments, no_fields, no_formals, none, occurrences, one, parenthesised, product, record_type, relates, repeat_loop, runs, some_arguments, some_fields, some_formals, sum, then_argument, then_fields, then_name, then_section, then_statement, value_section, variable_section, while_loop}
 use Rattle.ob0_language_names.specs.Elsewhere.{names_elsewhere}
@@ -18,7 +18,7 @@ pub none-of-join : {N : Type 0} (P : N → Type 0) (xs ys : List N) → NoneOf P
 none-of-join P [] ys f g = g
 none-of-join P (x ∷ xs) ys f g = (f.0, none-of-join P xs ys f.1 g)
 
--- states that each occurrence that satisfies P is a use, so inlining replaces it
+-- holds if each occurrence that satisfies `P` is a use, so that inlining replaces it
 abbrev pub AllGiveWay : Uses → (Name → Type 0) → ℕ → List Name → Type 0
 AllGiveWay uses P k [] = Unit {0}
 AllGiveWay uses P k (x ∷ xs) = (P x → uses k ≡ true) × AllGiveWay uses P (suc k) xs

@@ -1,5 +1,5 @@
--- Replacing the names of a tree replaces the names of its occurrences in the same way; a relabelled
--- tree has as many occurrences as the tree.
+-- Replacing the names of a tree replaces the names of its occurrences in the same way. A relabelled tree has as many
+-- occurrences as the original tree.
 use Rattle.std.proofs.Common.{List, None, [], ap, length, length-append, map, refl, suc, sym, ℕ, ◌++◌, ◌+◌, ◌∙◌, ◌∷◌, ◌≡◌}
 use Rattle.ob0_tree.specs.Tree.{Sort, Tree, adds, array_type, assigns, begins, block, branches, calls, compares, constant, constants, declares, declares_constant, declares_constants, declares_procedure, declares_type, declares_types, declares_variable, declares_variables, designator, else_branch, elsif_branch, empty, end, field, formals, further_section, has_body, index, integer, is_module, item, items, listed, maybe, module_text, more, multiplies, named_type, negation, no_arguments, no_fields, no_formals, none, occurrences, one, parenthesised, procedure, product, record_type, relates, repeat_loop, runs, section, some_arguments, some_fields, some_formals, sum, then_argument, then_fields, then_name, then_section, then_statement, type_name, type_names, value_section, variable, variable_section, variables, while_loop}
 use Rattle.ob0_language_names.specs.Mapping.{with_names}
@@ -70,7 +70,7 @@ pub length-map : {N M : Type 0} (f : N → M) (xs : List N) → length (map f xs
 length-map f [] = refl
 length-map f (x ∷ xs) = ap suc (length-map f xs)
 
--- states that two trees have the same number of occurrences
+-- holds if two trees have the same number of occurrences
 abbrev pub AsMany : {N M : Type 0} {s : Sort} → Tree M s → Tree N s → Type 0
 AsMany there here = length (occurrences there) ≡ length (occurrences here)
 

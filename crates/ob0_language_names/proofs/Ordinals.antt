@@ -1,4 +1,4 @@
--- The ordinal after a list of names, and the scope after it, if the list is joined from two.
+-- Declaring two joined lists of names gives the same ordinal and scope as declaring one list and then the other.
 use Rattle.std.proofs.Common.{◌≡◌, ℕ, suc, ◌≤◌, List, [], ◌∷◌, ◌++◌, refl, le_trans, le_refl, le_of_lt}
 use Rattle.ob0_tree.specs.Tree.{Tree, block, declares, declares_procedure, end, has_body, item, items, more, procedure}
 use Rattle.ob0_language_names.specs.Parts.{constant_names, formal_names, formal_sections, named_types, section_constants, section_types, section_variables, variable_names}

@@ -1,5 +1,5 @@
--- Properties of each occurrence of a tree, stated by its number, its scope and its name.
--- `each-block` derives one such property from two lists of labels.
+-- Properties of each occurrence of a tree, according to its number, its scope and its name. `each-block` derives such a
+-- property from two lists of labels.
 use Rattle.std.proofs.Common.{List, None, [], arith, length, map, refl, subst, suc, ℕ, ◌++◌, ◌+◌, ◌∷◌, ◌≡◌}
 use Rattle.ob0_tree.specs.Tree.{Sort, Tree, block, body, constant, constants, declares, declares_constant, declares_constants, declares_procedure, declares_type, declares_types, declares_variable, declares_variables, end, expression, formals, further_section, has_body, item, items, maybe, more, no_formals, none, occurrences, one, procedure, section, some_formals, then_section, type_name, type_names, value_section, variable, variable_section, variables, written_type}
 use Rattle.ob0_language_names.specs.Names.{Label, Name, Naming}
@@ -7,12 +7,12 @@ use Rattle.ob0_language_names.specs.Parts.{formal_names, formal_sections, names_
 use Rattle.ob0_language_names.specs.Scopes.{Scope, after_names, after_procedure, as_label, body_scope, declare_names, first_procedure, first_type, first_variable, label_of, procedures_scope, relabel_block, relabel_constant_section, relabel_constants, relabel_formals, relabel_procedure, relabel_procedures, relabel_section, relabel_sections, relabel_type_section, relabel_types, relabel_uses, relabel_variable_section, relabel_variables, types_scope, variables_scope}
 use Rattle.ob0_language_names.proofs.OccurrenceNames.{as_many-constant_section, as_many-formals, as_many-procedure, as_many-procedures, as_many-section, as_many-type_section, as_many-uses, as_many-variable_section, longer, occurrences-with_names}
 
--- the property Q holds of each occurrence in a list, whose numbers count up from j
+-- holds if `Q` holds for each occurrence in a list, whose numbers count up from `j`
 abbrev pub Each : (ℕ → Scope Name → Name → Type 0) → ℕ → Scope Name → List Name → Type 0
 Each Q j scope [] = Unit {0}
 Each Q j scope (x ∷ xs) = Q j scope x × Each Q (suc j) scope xs
 
--- a property of a tree that declares nothing, by the number of its first occurrence and its scope
+-- a property of a tree that declares nothing, according to the number of its first occurrence and its scope
 abbrev pub Placed : Type 1
 Placed = (s : Sort) → ℕ → Scope Name → Tree Name s → Type 0
 
@@ -53,7 +53,7 @@ abbrev mutual
       EachSection L j scope (suc k) (formal_sections fs)
       × EachBlock L (j + length (occurrences fs)) (declare_names (suc k) (formal_names (formal_sections fs)) ((x, k) ∷ scope)) (after_names (suc k) (formal_names (formal_sections fs))) b
 
--- R holds of each label of a list, whose numbers count up from j
+-- holds if `R` holds for each label of a list, whose numbers count up from `j`
 abbrev pub AllAt : (ℕ → Label → Type 0) → ℕ → List Label → Type 0
 AllAt R j [] = Unit {0}
 AllAt R j (l ∷ ls) = R j l × AllAt R (suc j) ls
@@ -64,11 +64,11 @@ cut R j n (x ∷ xs) ys e h =
     let g = cut R (suc j) (length xs) xs ys refl h.1 in
     ((h.0, g.0), subst (λ m. AllAt R m ys) (omega (arith, e)) g.1)
 
--- R holds of the label under one naming, and S of the label under another
+-- holds if `R` holds for the label under one naming, and `S` for the label under another
 abbrev pub Both : Naming Name → Naming Name → (ℕ → Label → Type 0) → (ℕ → Label → Type 0) → ℕ → Scope Name → Name → Type 0
 Both u v R S j scope x = R j (label_of u (as_label u) scope x) × S j (label_of v (as_label v) scope x)
 
--- if these properties imply L for each tree that declares nothing, then L holds throughout a block
+-- If these properties imply `L` for each tree that declares nothing, `L` holds throughout a block.
 module _ (u v : Naming Name) (R S : ℕ → Label → Type 0) (L : Placed) (make : (s : Sort) (j : ℕ) (scope : Scope Name) (t : Tree Name s) → Each (Both u v R S) j scope (occurrences t) → L s j scope t) where
   each-names : (j : ℕ) (scope : Scope Name) (xs : List Name) → AllAt R j (map (label_of u (as_label u) scope) xs) → AllAt S j (map (label_of v (as_label v) scope) xs) → Each (Both u v R S) j scope xs
   each-names j scope [] f g = tt
@@ -176,7 +176,7 @@ module _ (u v : Naming Name) (R S : ℕ → Label → Type 0) (L : Placed) (make
         let g' = cut S j (length (occurrences fs)) (occurrences (relabel_formals v (as_label v) scope (suc k) fs)) (occurrences (relabel_block v (as_label v) inner n b)) (as_many-formals v (as_label v) scope (suc k) fs) g in
         (each-formals j scope (suc k) fs f'.0 g'.0, each-block (j + length (occurrences fs)) inner n b f'.1 g'.1)
 
--- two properties of a place that imply a third one also imply it throughout a block
+-- If two properties of a place imply a third one, they also imply it throughout a block.
 module _ (K L M : Placed) (make : (s : Sort) (j : ℕ) (scope : Scope Name) (t : Tree Name s) → K s j scope t → L s j scope t → M s j scope t) where
   both-constants : (j : ℕ) (scope : Scope Name) (k : ℕ) (cs : Tree Name (items constant)) → EachConstant K j scope k cs → EachConstant L j scope k cs → EachConstant M j scope k cs
   both-constants j scope k end f g = tt

@@ -16,7 +16,7 @@ use Rattle.std.proofs.lemmas.Bool.{and_from, and_parts, or_parts}
 use Rattle.std.proofs.lemmas.List.Folds.{list_any-append}
 use Rattle.std.specs.List.{list_any}
 
--- the names of a relabelled tree's declarations
+-- The names of a relabelled tree's declarations are the labels of the original names.
 
 pub label_names-append : {N M : Type 0} (label : Labels N M) (k : ℕ) (xs ys : List N) → label_names label k (xs ++ ys) ≡ label_names label k xs ++ label_names label (after_names k xs) ys
 label_names-append label k [] ys = refl
@@ -46,7 +46,7 @@ sections-labels naming label scope k (more (then_section s) fs) =
     (λ i. section_names-relabel naming label scope k s i ++ sections-labels naming label (declare_names k (section_names s) scope) (after_names k (section_names s)) fs i)
     ∙ sym (label_names-append label k (section_names s) (formal_names fs))
 
--- the labels in the scope after declarations
+-- The labels in the scope after declarations are the declared names' labels in reverse, then the earlier labels.
 
 pub labels_in-names : {N M : Type 0} (label : Labels N M) (k : ℕ) (xs : List N) (scope : Scope N) → labels_in label (declare_names k xs scope) ≡ onto (label_names label k xs) (labels_in label scope)
 labels_in-names label k [] scope = refl
@@ -66,7 +66,7 @@ pub onto-parts : {A : Type 0} (cs ts vs ps own : List A) → onto ps (onto vs (o
 onto-parts cs ts vs ps own =
     sym (onto-append cs (ts ++ (vs ++ ps)) own ∙ (onto-append ts (vs ++ ps) (onto cs own) ∙ onto-append vs ps (onto ts (onto cs own))))
 
--- the labels of a block's scope are the names of the relabelled block, in reverse
+-- The labels of a block's scope are the names of the relabelled block, in reverse.
 pub labels_in-block : {N M : Type 0} (naming : Naming N) (label : Labels N M) (visible : Scope N) (k : ℕ) (b : Tree N block) (own : Scope N)
     → labels_in label (body_scope k b own) ≡ onto (block_names (relabel_block naming label visible k b)) (labels_in label own)
 labels_in-block {N} naming label visible k (has_body (declares cs ts vs ps) statements) own =
@@ -96,7 +96,7 @@ own_names-block k (has_body (declares cs ts vs ps) statements) own =
     named : (k : ℕ) (xs : List Name) (scope : Scope Name) → labels_in own_name (declare_names k xs scope) ≡ onto xs (labels_in own_name scope)
     named k xs scope = labels_in-names own_name k xs scope ∙ ap (λ ys. onto ys (labels_in own_name scope)) (label_names-own k xs)
 
--- ordinals decrease from newer to older bindings
+-- Ordinals decrease from newer to older bindings.
 
 pub falls-names : {N : Type 0} (k : ℕ) (xs : List N) (scope : Scope N) → Falls k scope → Falls (after_names k xs) (declare_names k xs scope)
 falls-names k [] scope falls = falls
@@ -114,7 +114,7 @@ falls-block {N} k (has_body (declares cs ts vs ps) statements) own falls =
     (falls-names (first_type k b) (named_types (section_types ts)) (types_scope k b own)
     (falls-names k (constant_names (section_constants cs)) own falls)))
 
--- a renaming leaves the names of fields unchanged
+-- A renaming leaves the names of fields unchanged.
 
 pub further-kept : (f : Name → Name) (xs : Tree Name (items further_name)) → further_names (with_names f (λ x. x) xs) ≡ further_names xs
 further-kept f end = refl
@@ -162,7 +162,7 @@ formals_once-renamed d new scope k (more (then_section s) fs) = λ i.
     (ap fields_once (section_type-relabel as_names (new_name d new) scope k s) ∙ fields_once-kept (label_of as_names (new_name d new) scope) (section_type s)) i
     && formals_once-renamed d new (declare_names k (section_names s) scope) (after_names k (section_names s)) fs i
 
--- no block has the new name for a declaration other than d
+-- returns true if a block declares `d` and another declaration of the block has the new name
 
 abbrev pub Clashes : ℕ → Name → Scope Name → Bool
 Clashes d new own = declares_ordinal own d && names_another own d new

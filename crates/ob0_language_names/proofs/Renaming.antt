@@ -10,7 +10,7 @@ use Rattle.ob0_language_names.proofs.Ordinals.{after_names-append}
 use Rattle.ob0_language_names.proofs.Peeling.{Peel, both, nothing, peel, to}
 use Rattle.ob0_language_names.proofs.Relabelled.{constants-section, formals-section, names-relabel, section_names-relabel, types-section, variables-section}
 
--- the labels and ordinals of declarations don't depend on names
+-- The labels and ordinals of declarations don't depend on names.
 
 pub after_names-label : {N M : Type 0} (label : Labels N M) (j k : ℕ) (xs : List N) → j ≡ k → after_names j (label_names label k xs) ≡ after_names k xs
 after_names-label label j k [] e = e
@@ -71,8 +71,8 @@ mutual
       after_block-relabel naming label (declare_names (suc k) (formal_names (formal_sections fs)) ((x, k) ∷ scope)) (after_names (suc j) (formal_names (formal_sections (relabel_formals naming label scope (suc k) fs)))) (after_names (suc k) (formal_names (formal_sections fs))) b
       (ap (λ l. after_names (suc j) (formal_names l)) (formals-section naming label scope (suc k) fs) ∙ after_sections naming label scope (suc j) (suc k) (formal_sections fs) (ap suc e))
 
--- declarations: `ren` relabels names and leaves unbound names unchanged; `here` is a scope of the
--- original tree, `there` the same scope of the relabelled tree
+-- Relabelling declarations twice is numbering them. `ren` relabels names and leaves unbound names unchanged. `here` is
+-- a scope of the original tree, and `there` the same scope of the relabelled tree.
 
 pub further_names-twice : {N : Type 0} (naming : Naming N) (ren : Labels N N) (j k : ℕ) → j ≡ k → (xs : Tree N (items further_name)) → relabel_further (as_label naming) j (relabel_further ren k xs) ≡ relabel_further (as_label naming) k xs
 further_names-twice naming ren j k e end = refl
@@ -202,7 +202,7 @@ mutual
       (peel_block naming ren keeps scope' scope n' n (ap (λ l. after_names (suc j) (formal_names l)) (formals-section naming ren here (suc k) fs) ∙ after_sections naming ren here (suc j) (suc k) (formal_sections fs) (ap suc jk)) b))
       (λ q i. declares_procedure (declared (jk i)) (q.first i) (q.second i) (declared (jk i)))
 
--- a renaming that leaves each binding unchanged leaves the numbered tree unchanged
+-- A renaming that leaves each binding unchanged leaves the numbered tree unchanged.
 pub renamed-numbered : (m : Tree Name module_text) (d : ℕ) (new : Name) → bindings (renamed m d new) ≡ bindings m → numbered (renamed m d new) ≡ numbered m
 renamed-numbered (is_module x b closing) d new e =
     let ren : Labels Name Name = λ ordinal x. if same_ordinal ordinal d then new else x in

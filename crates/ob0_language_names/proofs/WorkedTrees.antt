@@ -1,4 +1,4 @@
--- The trees of worked modules.
+-- The trees of the modules in worked examples.
 use Rattle.std.proofs.Common.{Some, None, codes}
 use Rattle.ob0_tree.specs.declared.tree.Relation.TheVariants as relation
 use Rattle.ob0_tree.specs.declared.tree.Sign.TheVariants as sign
@@ -7,7 +7,7 @@ use Rattle.ob0_tree.specs.declared.tree.MultiplyOperator.TheVariants as multiply
 use Rattle.ob0_tree.specs.Tree.{Tree, adds, array_type, assigns, begins, branches, calls, compares, declares, declares_constant, declares_constants, declares_procedure, declares_type, declares_types, declares_variable, declares_variables, designator, end, expression, factor, field, has_body, index, integer, is_module, listed, module_text, more, multiplies, named_type, none, one, parenthesised, product, record_type, relates, repeat_loop, runs, some_arguments, some_fields, some_formals, sum, then_argument, then_name, then_section, then_statement, value_section, variable_section, while_loop}
 use Rattle.ob0_language_names.specs.Names.{Name}
 
--- an expression that consists of one factor
+-- returns an expression that consists of one factor
 abbrev pub alone : {N : Type 0} → Tree N factor → Tree N expression
 alone f = compares (sum None (product f end) end) none
 

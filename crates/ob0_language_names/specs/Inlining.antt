@@ -11,8 +11,8 @@ use Rattle.ob0_language_names.specs.Scopes.{after_names, after_procedure, first_
 abbrev pub Uses : Type 0
 Uses = ℕ → Bool
 
--- a tree in which the factor v replaces each use; k is the number of the tree's first occurrence;
--- a name with selectors isn't a use of a constant
+-- Returns the tree in which the factor `v` replaces each use. `k` is the number of the tree's first occurrence. A name
+-- with selectors isn't a use of a constant.
 abbrev pub inline_in : {s : Sort} → Uses → Tree Name factor → ℕ → Tree Name s → Tree Name s
 inline_in uses v k none = none
 inline_in uses v k (one t) = one (inline_in uses v k t)
@@ -101,52 +101,52 @@ inline_in uses v k (has_body ds b) =
     has_body (inline_in uses v k ds) (inline_in uses v (k + length (occurrences ds)) b)
 inline_in uses v k (is_module name b closing) = is_module name (inline_in uses v k b) closing
 
--- a module in which the factor v replaces each use
+-- returns the module in which the factor `v` replaces each use
 abbrev pub inlined : Tree Name module_text → Uses → Tree Name factor → Tree Name module_text
 inlined m uses v = inline_in uses v 0 m
 
--- a list of constants without the constant of ordinal d; k is the ordinal of the first one
+-- returns a list of constants without the constant with ordinal `d`; `k` is the ordinal of the first one
 abbrev pub without : ℕ → ℕ → Tree Name (items constant) → Tree Name (items constant)
 without d k end = end
 without d k (more c cs) = if k == d then cs else more c (without d (suc k) cs)
 
--- a CONST section without the constant of ordinal d; k is the ordinal of its first constant
+-- returns a CONST section without the constant with ordinal `d`; `k` is the ordinal of its first constant
 abbrev pub section_without : ℕ → ℕ → Tree Name (maybe constants) → Tree Name (maybe constants)
 section_without d k none = none
 section_without d k (one (declares_constants cs)) = one (declares_constants (without d k cs))
 
--- a block without the constant of ordinal d; the word CONST remains even if no constant is left
+-- Returns a block without the constant with ordinal `d`. The word CONST remains even if no constant is left.
 abbrev mutual
-  -- a block whose first declaration has ordinal k
+  -- returns a block without the constant with ordinal `d`; the block's first declaration has ordinal `k`
   pub block_without : ℕ → ℕ → Tree Name block → Tree Name block
   block_without d k (has_body (declares cs ts vs ps) statements) =
       has_body (declares (section_without d k cs) ts vs (procedures_without d
       (first_procedure k (has_body (declares cs ts vs ps) statements)) ps)) statements
 
-  -- procedures, the first of which has ordinal k
+  -- returns procedures without the constant with ordinal `d`; the first procedure has ordinal `k`
   pub procedures_without : ℕ → ℕ → Tree Name (items procedure) → Tree Name (items procedure)
   procedures_without d k end = end
   procedures_without d k (more p rest) =
       more (procedure_without d (suc k) p) (procedures_without d (after_procedure (suc k) p) rest)
 
-  -- a procedure with ordinal k - 1
+  -- returns a procedure without the constant with ordinal `d`; the procedure has ordinal `k - 1`
   pub procedure_without : ℕ → ℕ → Tree Name (item procedure) → Tree Name (item procedure)
   procedure_without d k (declares_procedure x fs b closing) =
       declares_procedure x fs
       (block_without d (after_names k (formal_names (formal_sections fs))) b) closing
 
--- a module without the constant of ordinal d
+-- returns a module without the constant with ordinal `d`
 abbrev pub module_without : ℕ → Tree Name module_text → Tree Name module_text
 module_without d (is_module x b closing) = is_module x (block_without d predeclared_count b) closing
 
--- only the occurrence with this number
+-- selects only the occurrence with this number
 abbrev pub only : ℕ → Uses
 only occurrence k = k == occurrence
 
--- all occurrences that are bound to a declaration
+-- selects all occurrences that are bound to the declaration `d`
 abbrev pub all_bound_to : Tree Name module_text → ℕ → Uses
 all_bound_to m d k = same_ordinal (binds m k) d
 
--- a module in which the factor v replaces all uses of the constant d, without its declaration
+-- returns the module in which the factor `v` replaces all uses of the constant `d`, and which doesn't declare `d`
 abbrev pub inlined_everywhere : Tree Name module_text → ℕ → Tree Name factor → Tree Name module_text
 inlined_everywhere m d v = module_without d (inlined m (all_bound_to m d) v)

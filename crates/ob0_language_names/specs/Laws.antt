@@ -6,7 +6,7 @@ use Rattle.ob0_language_names.specs.Names.{Name}
 use Rattle.ob0_language_names.specs.Occurrences.{Free}
 use Rattle.ob0_language_names.specs.Scopes.{numbered, renamed}
 
--- if a new name is free, the renamed module has the same numbered tree as the module
+-- If a new name is free, the renamed module has the same numbered tree as the original module.
 abbrev pub FreeKeepsNumbers : Type 0
 FreeKeepsNumbers =
     (m : Tree Name module_text) (d : ℕ) (new : Name)

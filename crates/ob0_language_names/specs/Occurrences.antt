@@ -1,5 +1,4 @@
--- The declaration that each occurrence of a name is bound to, and which new names for a declaration
--- are free.
+-- The declaration that each occurrence of a name is bound to, and the new names that are free for a declaration.
 -- Rule: docs/LANGUAGE.md, Scopes 2 to 4; docs/PROTOCOL.md, Refusals of edits (Duplicate, Captures).
 use Rattle.std.specs.Prelude.{◌≡◌, ℕ, suc, Bool, false, not, ◌&&◌, List, [], ◌∷◌, ◌++◌, if◌then◌else◌, ◌==◌, slice_get, Some, None, Option, option_map, option_and_then}
 use Rattle.ob0_tree.specs.Tree.{Tree, block, declares, declares_procedure, end, has_body, item, items, module_text, more, occurrences, procedure}
@@ -8,66 +7,65 @@ use Rattle.ob0_language_names.specs.Parts.{formal_names, formal_sections, module
 use Rattle.ob0_language_names.specs.Scopes.{Scope, after_names, after_procedure, body_scope, declare_names, first_procedure, numbered, predeclared_count, renamed}
 use Rattle.std.specs.List.{list_any}
 
--- the label of each occurrence of a name, in text order
+-- returns the label of each occurrence of a name, in text order
 abbrev pub bindings : Tree Name module_text → List Label
 bindings m = occurrences (numbered m)
 
--- the ordinal in a label, or None if it has none
+-- returns the ordinal in a label, or None if it has none
 abbrev pub label_ordinal : Label → Option ℕ
 label_ordinal (declared k) = Some k
 label_ordinal (as_written x) = None
 
--- the ordinal of the declaration that an occurrence is bound to; None if nothing binds it
+-- returns the ordinal of the declaration that an occurrence is bound to; None if nothing binds it
 abbrev pub binds : Tree Name module_text → ℕ → Option ℕ
 binds m occurrence = option_and_then label_ordinal (slice_get (bindings m) occurrence)
 
--- the declarations of each block, with their ordinals;
--- a procedure's parameters and locals are one block
+-- Returns the declarations of each block, with their ordinals. A procedure's parameters and locals are one block.
 abbrev mutual
-  -- a block whose first declaration has ordinal k, then the blocks inside it; `own` are the
-  -- declarations of its procedure's parameters
+  -- Returns the declarations of a block, then the declarations of the blocks within it. The block's first declaration
+  -- has ordinal `k`. `own` are the declarations of its procedure's parameters.
   pub blocks_in : {N : Type 0} → ℕ → Scope N → Tree N block → List (Scope N)
   blocks_in k own (has_body (declares cs ts vs ps) statements) =
       body_scope k (has_body (declares cs ts vs ps) statements) own
       ∷ blocks_in_procedures (first_procedure k (has_body (declares cs ts vs ps) statements)) ps
 
-  -- the blocks of procedures, the first of which has ordinal k
+  -- returns the declarations of the blocks of procedures, the first of which has ordinal `k`
   pub blocks_in_procedures : {N : Type 0} → ℕ → Tree N (items procedure) → List (Scope N)
   blocks_in_procedures k end = []
   blocks_in_procedures k (more p rest) =
       blocks_in_procedure (suc k) p ++ blocks_in_procedures (after_procedure (suc k) p) rest
 
-  -- the blocks of a procedure with ordinal k - 1
+  -- returns the declarations of the blocks of a procedure with ordinal `k - 1`
   pub blocks_in_procedure : {N : Type 0} → ℕ → Tree N (item procedure) → List (Scope N)
   blocks_in_procedure k (declares_procedure x fs b closing) =
       blocks_in (after_names k (formal_names (formal_sections fs)))
       (declare_names k (formal_names (formal_sections fs)) []) b
 
--- true if a block declares this ordinal
+-- returns true if a block declares this ordinal
 abbrev pub declares_ordinal : Scope Name → ℕ → Bool
 declares_ordinal own d = list_any (λ b. b.1 == d) own
 
--- true if a declaration of the block other than d has this name
+-- returns true if a declaration of the block other than `d` has this name
 abbrev pub names_another : Scope Name → ℕ → Name → Bool
 names_another own d new = list_any (λ b. same_name b.0 new && not (b.1 == d)) own
 
--- true if another declaration of d's block has the new name
+-- returns true if another declaration of `d`'s block has the new name
 abbrev pub is_duplicate : Tree Name module_text → ℕ → Name → Bool
 is_duplicate m d new =
     list_any (λ own. declares_ordinal own d && names_another own d new)
     (blocks_in predeclared_count [] (module_block m))
 
--- states that a new name is free: no other declaration of d's block has it, and after the renaming
--- each occurrence is still bound to its declaration
+-- Holds if a new name is free. No other declaration of `d`'s block has it, and after the renaming each occurrence is
+-- still bound to its declaration.
 abbrev pub Free : Tree Name module_text → ℕ → Name → Type 0
 Free m d new = (is_duplicate m d new ≡ false) × (bindings (renamed m d new) ≡ bindings m)
 
--- true if two occurrences are bound to the same declaration, or are the same unbound name
+-- returns true if two occurrences are bound to the same declaration, or are the same unbound name
 abbrev pub same_binding : Label → Label → Bool
 same_binding (as_written x) (as_written y) = same_name x y
 same_binding a b = same_label a b
 
--- the first position at which two lists of labels differ
+-- returns the first position at which two lists of labels differ; None if they don't
 abbrev pub first_difference : List Label → List Label → Option ℕ
 first_difference (a ∷ as₁) (b ∷ bs) =
     if same_binding a b then option_map suc (first_difference as₁ bs) else Some 0
@@ -78,8 +76,9 @@ pub data Capture : Type 0 where
   at_declaration : Capture
   at_occurrence : ℕ → Capture
 
--- the first conflict of a new name: at the declaring identifier if the block already has the name,
--- otherwise at the first occurrence, in text order, whose binding would change
+-- Returns the first conflict of a new name. It is at the declaring identifier if the block already has the name.
+-- Otherwise it is at the first occurrence, in text order, whose binding would change. Returns None if there is no
+-- conflict.
 abbrev pub first_captured : Tree Name module_text → ℕ → Name → Option Capture
 first_captured m d new =
     if is_duplicate m d new

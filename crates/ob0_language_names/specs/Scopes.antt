@@ -6,24 +6,24 @@ use Rattle.ob0_language_names.specs.Mapping.{with_names}
 use Rattle.ob0_language_names.specs.Names.{Label, Name, Naming, as_names, as_written, declared}
 use Rattle.ob0_language_names.specs.Parts.{block_constants, block_procedures, block_types, block_variables, constant_names, formal_names, formal_sections, named_types, names_listed, procedure_name, section_constants, section_names, section_types, section_variables, variable_names}
 
--- the bindings that are visible at a place, each a name with its declaration's ordinal:
--- newest first, the predeclared names last
+-- the bindings that are visible at a place, each a name with its declaration's ordinal, newest first, the predeclared
+-- names last
 abbrev pub Scope : Type 0 → Type 0
 Scope N = List (N × ℕ)
 
--- the ordinal of the declaration that a name is bound to: the first binding of that name
+-- returns the ordinal of the declaration that a name is bound to, which is its first binding; None if there is none
 abbrev pub ordinal_of : {N : Type 0} → Naming N → Scope N → N → Option ℕ
 ordinal_of naming [] x = None
 ordinal_of naming (b ∷ scope) x =
     elim (naming.same x b.0) [ true ↦ Some b.1 | false ↦ ordinal_of naming scope x ]
 
--- a scope with the names of a list added; their ordinals count up from k; declarations are numbered
--- in text order, the predeclared names from 0 to 6
+-- Returns the scope to which the names of a list are added. Their ordinals count up from `k`. Declarations are numbered
+-- in text order, the predeclared names from 0 to 6.
 abbrev pub declare_names : {N : Type 0} → ℕ → List N → Scope N → Scope N
 declare_names k [] scope = scope
 declare_names k (x ∷ xs) scope = declare_names (suc k) xs ((x, k) ∷ scope)
 
--- how many names are predeclared; the ordinals of declarations begin with this number
+-- the number of predeclared names; the ordinals of declarations begin with this number
 abbrev pub predeclared_count : ℕ
 predeclared_count = 7
 
@@ -32,41 +32,41 @@ abbrev pub predeclared_scope : {N : Type 0} → Naming N → Scope N
 predeclared_scope naming =
     declare_names 0 (map naming.predeclared (0 ∷ 1 ∷ 2 ∷ 3 ∷ 4 ∷ 5 ∷ 6 ∷ [])) []
 
--- the first ordinal after a list of names whose first one has ordinal k
+-- returns the first ordinal after a list of names whose first one has ordinal `k`
 abbrev pub after_names : {N : Type 0} → ℕ → List N → ℕ
 after_names k [] = k
 after_names k (x ∷ xs) = after_names (suc k) xs
 
--- the first ordinal after a block, after procedures, or after a procedure
+-- Returns the first ordinal after a block, after procedures, or after a procedure.
 abbrev mutual
-  -- after a block whose first declaration has ordinal k
+  -- returns the first ordinal after a block whose first declaration has ordinal `k`
   pub after_block : {N : Type 0} → ℕ → Tree N block → ℕ
   after_block k (has_body (declares cs ts vs ps) statements) =
       after_procedures (after_names (after_names
       (after_names k (constant_names (section_constants cs))) (named_types (section_types ts)))
       (variable_names (section_variables vs))) ps
 
-  -- after procedures, the first of which has ordinal k
+  -- returns the first ordinal after procedures, the first of which has ordinal `k`
   pub after_procedures : {N : Type 0} → ℕ → Tree N (items procedure) → ℕ
   after_procedures k end = k
   after_procedures k (more p rest) = after_procedures (after_procedure (suc k) p) rest
 
-  -- after the parameters and the block of a procedure with ordinal k - 1
+  -- returns the first ordinal after the parameters and the block of a procedure with ordinal `k - 1`
   pub after_procedure : {N : Type 0} → ℕ → Tree N (item procedure) → ℕ
   after_procedure k (declares_procedure x fs b closing) =
       after_block (after_names k (formal_names (formal_sections fs))) b
 
--- gives the label that replaces a name in a relabelled tree, from the ordinal of the name's
--- declaration (None if nothing binds it) and the name
+-- A function that returns the label for a name in a relabelled tree. Its arguments are the ordinal of the name's
+-- declaration (None if nothing binds the name) and the name.
 abbrev pub Labels : Type 0 → Type 0 → Type 0
 Labels N M = Option ℕ → N → M
 
--- the label of a looked-up name
+-- returns the label of a looked-up name
 abbrev pub label_of : {N M : Type 0} → Naming N → Labels N M → Scope N → N → M
 label_of naming label scope x = label (ordinal_of naming scope x) x
 
--- a tree that declares nothing, with labels: its names are looked up, and its fields are bound to
--- nothing
+-- Returns a tree that declares nothing with labels instead of names. Its names are looked up, and its fields are bound
+-- to nothing.
 abbrev pub relabel_uses : {N M : Type 0} {s : Sort}
     → Naming N
     → Labels N M
@@ -75,12 +75,12 @@ abbrev pub relabel_uses : {N M : Type 0} {s : Sort}
     → Tree M s
 relabel_uses naming label scope = with_names (label_of naming label scope) (label None)
 
--- the labels of declared names, whose ordinals count up from k
+-- returns the labels of declared names, whose ordinals count up from `k`
 abbrev pub label_names : {N M : Type 0} → Labels N M → ℕ → List N → List M
 label_names label k [] = []
 label_names label k (x ∷ xs) = label (Some k) x ∷ label_names label (suc k) xs
 
--- the names of a list after the first one, with labels
+-- returns the names of a list after the first one, with labels
 abbrev pub relabel_further : {N M : Type 0}
     → Labels N M
     → ℕ
@@ -90,12 +90,12 @@ relabel_further label k end = end
 relabel_further label k (more (then_name x) rest) =
     more (then_name (label (Some k) x)) (relabel_further label (suc k) rest)
 
--- a list of declared names, with labels
+-- returns a list of declared names, with labels
 abbrev pub relabel_names : {N M : Type 0} → Labels N M → ℕ → Tree N names → Tree M names
 relabel_names label k (listed x rest) =
     listed (label (Some k) x) (relabel_further label (suc k) rest)
 
--- constants with labels; a constant is visible after its right side
+-- returns constants with labels; a constant is visible after its right side
 abbrev pub relabel_constants : {N M : Type 0}
     → Naming N
     → Labels N M
@@ -108,7 +108,7 @@ relabel_constants naming label scope k (more (declares_constant x e) cs) =
     more (declares_constant (label (Some k) x) (relabel_uses naming label scope e))
     (relabel_constants naming label ((x, k) ∷ scope) (suc k) cs)
 
--- types with labels; a type is visible after its right side
+-- returns types with labels; a type is visible after its right side
 abbrev pub relabel_types : {N M : Type 0}
     → Naming N
     → Labels N M
@@ -121,7 +121,7 @@ relabel_types naming label scope k (more (declares_type x t) ds) =
     more (declares_type (label (Some k) x) (relabel_uses naming label scope t))
     (relabel_types naming label ((x, k) ∷ scope) (suc k) ds)
 
--- variables with labels; a variable is visible after its type
+-- returns variables with labels; a variable is visible after its type
 abbrev pub relabel_variables : {N M : Type 0}
     → Naming N
     → Labels N M
@@ -135,7 +135,7 @@ relabel_variables naming label scope k (more (declares_variable ns t) gs) =
     (relabel_variables naming label (declare_names k (names_listed ns) scope)
     (after_names k (names_listed ns)) gs)
 
--- a section of parameters, with labels
+-- returns a section of parameters, with labels
 abbrev pub relabel_section : {N M : Type 0}
     → Naming N
     → Labels N M
@@ -148,7 +148,7 @@ relabel_section naming label scope k (value_section ns t) =
 relabel_section naming label scope k (variable_section ns t) =
     variable_section (relabel_names label k ns) (relabel_uses naming label scope t)
 
--- further sections of parameters, with labels; a parameter is visible after its section's type
+-- returns further sections of parameters, with labels; a parameter is visible after its section's type
 abbrev pub relabel_sections : {N M : Type 0}
     → Naming N
     → Labels N M
@@ -162,7 +162,7 @@ relabel_sections naming label scope k (more (then_section s) fs) =
     (relabel_sections naming label (declare_names k (section_names s) scope)
     (after_names k (section_names s)) fs)
 
--- formal parameters, with labels
+-- returns formal parameters, with labels
 abbrev pub relabel_formals : {N M : Type 0}
     → Naming N
     → Labels N M
@@ -177,7 +177,7 @@ relabel_formals naming label scope k (one (some_formals s fs)) =
     (relabel_sections naming label (declare_names k (section_names s) scope)
     (after_names k (section_names s)) fs))
 
--- a CONST section, with labels
+-- returns a CONST section, with labels
 abbrev pub relabel_constant_section : {N M : Type 0}
     → Naming N
     → Labels N M
@@ -189,7 +189,7 @@ relabel_constant_section naming label scope k none = none
 relabel_constant_section naming label scope k (one (declares_constants cs)) =
     one (declares_constants (relabel_constants naming label scope k cs))
 
--- a TYPE section, with labels
+-- returns a TYPE section, with labels
 abbrev pub relabel_type_section : {N M : Type 0}
     → Naming N
     → Labels N M
@@ -201,7 +201,7 @@ relabel_type_section naming label scope k none = none
 relabel_type_section naming label scope k (one (declares_types ts)) =
     one (declares_types (relabel_types naming label scope k ts))
 
--- a VAR section, with labels
+-- returns a VAR section, with labels
 abbrev pub relabel_variable_section : {N M : Type 0}
     → Naming N
     → Labels N M
@@ -213,47 +213,47 @@ relabel_variable_section naming label scope k none = none
 relabel_variable_section naming label scope k (one (declares_variables vs)) =
     one (declares_variables (relabel_variables naming label scope k vs))
 
--- a scope with a block's procedures added; k is the ordinal of the first one
+-- returns the scope to which a block's procedures are added; `k` is the ordinal of the first one
 abbrev pub declare_procedure_names : {N : Type 0} → ℕ → Tree N (items procedure) → Scope N → Scope N
 declare_procedure_names k end scope = scope
 declare_procedure_names k (more p rest) scope =
     declare_procedure_names (after_procedure (suc k) p) rest ((procedure_name p, k) ∷ scope)
 
--- the ordinal of a block's first type; k is the ordinal of its first constant
+-- returns the ordinal of a block's first type; `k` is the ordinal of its first declaration
 abbrev pub first_type : {N : Type 0} → ℕ → Tree N block → ℕ
 first_type k b = after_names k (constant_names (block_constants b))
 
--- the ordinal that a block's first variable has; k is the ordinal of its first declaration
+-- returns the ordinal of a block's first variable; `k` is the ordinal of its first declaration
 abbrev pub first_variable : {N : Type 0} → ℕ → Tree N block → ℕ
 first_variable k b = after_names (first_type k b) (named_types (block_types b))
 
--- the ordinal that a block's first procedure has; k is the ordinal of its first declaration
+-- returns the ordinal of a block's first procedure; `k` is the ordinal of its first declaration
 abbrev pub first_procedure : {N : Type 0} → ℕ → Tree N block → ℕ
 first_procedure k b = after_names (first_variable k b) (variable_names (block_variables b))
 
--- the scope at the start of a block's types
+-- returns the scope at the start of a block's types
 abbrev pub types_scope : {N : Type 0} → ℕ → Tree N block → Scope N → Scope N
 types_scope k b scope = declare_names k (constant_names (block_constants b)) scope
 
--- the scope at the start of a block's variables
+-- returns the scope at the start of a block's variables
 abbrev pub variables_scope : {N : Type 0} → ℕ → Tree N block → Scope N → Scope N
 variables_scope k b scope =
     declare_names (first_type k b) (named_types (block_types b)) (types_scope k b scope)
 
--- the scope at the start of a block's procedures
+-- returns the scope at the start of a block's procedures
 abbrev pub procedures_scope : {N : Type 0} → ℕ → Tree N block → Scope N → Scope N
 procedures_scope k b scope =
     declare_names (first_variable k b) (variable_names (block_variables b))
     (variables_scope k b scope)
 
--- the scope of a block's statements
+-- returns the scope of a block's statements
 abbrev pub body_scope : {N : Type 0} → ℕ → Tree N block → Scope N → Scope N
 body_scope k b scope =
     declare_procedure_names (first_procedure k b) (block_procedures b) (procedures_scope k b scope)
 
--- a block, its procedures or one procedure, with labels; `scope` is the scope around them
+-- Returns a block, its procedures or one procedure with labels. `scope` is the scope around them.
 abbrev mutual
-  -- a block, whose first declaration has ordinal k
+  -- returns a block with labels; its first declaration has ordinal `k`
   pub relabel_block : {N M : Type 0}
       → Naming N
       → Labels N M
@@ -276,7 +276,7 @@ abbrev mutual
       (relabel_uses naming label (body_scope k (has_body (declares cs ts vs ps) statements) scope)
       statements)
 
-  -- procedures, the first of which has ordinal k; each is visible to those after it
+  -- returns procedures with labels; the first one has ordinal `k`, and each is visible to the later ones
   pub relabel_procedures : {N M : Type 0}
       → Naming N
       → Labels N M
@@ -290,7 +290,8 @@ abbrev mutual
       (relabel_procedures naming label ((procedure_name p, k) ∷ scope) (after_procedure (suc k) p)
       rest)
 
-  -- a procedure with ordinal k, which is visible after its heading; its closing name gets its label
+  -- returns a procedure with labels; it has ordinal `k`, it is visible after its heading, and its closing name gets its
+  -- label
   pub relabel_procedure : {N M : Type 0}
       → Naming N
       → Labels N M
@@ -305,7 +306,7 @@ abbrev mutual
       (after_names (suc k) (formal_names (formal_sections fs))) b)
       (label (Some k) closing)
 
--- a module with labels; the name of the module is in no scope
+-- returns a module with labels; the name of the module is in no scope
 abbrev pub relabelled : {N M : Type 0}
     → Naming N
     → Labels N M
@@ -315,20 +316,21 @@ relabelled naming label (is_module x b closing) =
     is_module (label None x) (relabel_block naming label (predeclared_scope naming) predeclared_count b)
     (label None closing)
 
--- the ordinal of a name's declaration, or the name as written if no declaration binds it
+-- labels a name by the ordinal of its declaration, or by the name as written if no declaration binds it
 abbrev pub as_label : {N : Type 0} → Naming N → Labels N Label
 as_label naming None x = as_written (naming.written x)
 as_label naming (Some k) x = declared k
 
--- the numbered tree of a module
+-- returns the numbered tree of a module
 abbrev pub numbered : Tree Name module_text → Tree Label module_text
 numbered = relabelled as_names (as_label as_names)
 
--- true if an optional ordinal is k
+-- returns true if an optional ordinal is `k`
 abbrev pub same_ordinal : Option ℕ → ℕ → Bool
 same_ordinal None k = false
 same_ordinal (Some j) k = j == k
 
--- a module in which the declaration d, each name bound to it and its closing name become `new`
+-- Returns the module in which the declaration `d` is renamed to `new`, including each name that is bound to `d` and the
+-- closing name of a procedure `d`.
 abbrev pub renamed : Tree Name module_text → ℕ → Name → Tree Name module_text
 renamed m d new = relabelled as_names (λ ordinal x. if same_ordinal ordinal d then new else x) m

@@ -6,18 +6,18 @@ use Rattle.ob0_language_names.specs.Names.{Name, Naming, predeclared_name, same_
 use Rattle.ob0_language_names.specs.Occurrences.{label_ordinal}
 use Rattle.ob0_language_names.specs.Scopes.{as_label, relabelled}
 
--- reads a tree as if every looked-up name were y
+-- reads a tree as if every looked-up name were `y`
 abbrev pub looking_for : Name → Naming Name
 looking_for y = record { same = λ x. same_name y; written = λ x. x; predeclared = predeclared_name }
 
--- the ordinal of the declaration to which y would be bound in place of an occurrence;
--- None if nothing would bind it
+-- returns the ordinal of the declaration to which `y` would be bound in place of an occurrence; None if nothing would
+-- bind it
 abbrev pub sees : Tree Name module_text → ℕ → Name → Option ℕ
 sees m occurrence y =
     option_and_then label_ordinal
     (slice_get (occurrences (relabelled (looking_for y) (as_label (looking_for y)) m)) occurrence)
 
--- for each occurrence, in text order, the ordinal to which y would be bound in its place
+-- returns, for each occurrence in text order, the ordinal to which `y` would be bound in its place
 abbrev pub ordinals_seen : Tree Name module_text → Name → List (Option ℕ)
 ordinals_seen m y =
     map label_ordinal (occurrences (relabelled (looking_for y) (as_label (looking_for y)) m))

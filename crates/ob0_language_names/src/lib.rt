@@ -1,3 +1,3 @@
-//! The scopes of a module (docs/LANGUAGE.md, Scopes): which declaration each name is bound to, and
-//! how a declaration is renamed or inlined. All are definitions, with their laws.
+//! Definitions and laws of the scopes of a module (docs/LANGUAGE.md, Scopes): the declaration that each name is bound
+//! to, and the renaming and inlining of a declaration.
 #![tactic(auto)]

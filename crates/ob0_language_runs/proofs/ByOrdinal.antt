@@ -20,7 +20,7 @@ use Rattle.ob0_language_runs.specs.Runs.{Activation, Argument, Calls, ProcedureT
 use Rattle.ob0_language_runs.proofs.Noted.{Below, Below-from, Noted, OwnName, by_name, by_name-from, by_ordinal, by_ordinal-from, noted_from, numbered_code, numbered_object, scope_of}
 use Rattle.ob0_language_runs.proofs.RunNaturality.{execute_all-map}
 
--- a name and its ordinal mean the same
+-- The modes of parameters are the same by name and by ordinal.
 
 pub label_names-modes : {N M : Type 0} (label : Labels N M) (m : Mode) (k : ℕ) (xs : List N) → map (λ x. m) (label_names label k xs) ≡ map (λ x. m) xs
 label_names-modes label m k [] = refl
@@ -73,7 +73,7 @@ type_of_name-agrees naming (b ∷ noted) = of_object b.object
     of_object (a_procedure code) = refl
     of_object (a_standard p) = refl
 
--- the label of a looked-up name
+-- returns the label of a looked-up name
 abbrev pub label_in : {N : Type 0} → Naming N → Noted N → N → Label
 label_in naming noted = label_of naming (as_label naming) (scope_of noted)
 
@@ -92,7 +92,7 @@ statement_meanings-agree naming n noted below x =
     ap (λ env. passing (newest env)) (by_ordinal-from naming n noted x below) ∙ passing-agrees naming (noted_from naming noted x)
     ∙ sym (ap (λ env. passing (newest env)) (by_name-from naming noted x))
 
--- the facts about a noted environment: its scope, and that its ordinals are below the next one
+-- holds if a noted environment has this scope, and its ordinals are below the next one
 abbrev pub Within : {N : Type 0} → ℕ → Scope N → Noted N → Type 0
 Within n scope noted = (scope_of noted ≡ scope) × Below n noted
 
@@ -123,7 +123,7 @@ types_declared naming j k noted below (more (declares_type x u) ds) =
     (denoted-map (label_in naming noted) (as_label naming None) (meanings as_labels (by_ordinal naming noted)) (meanings naming (by_name noted)) (constants-agree naming k noted below) (types-agree naming k noted below) (λ x. refl) j u)
     (λ s. types_declared naming (j + constructors u) (suc k) (record { name = x; ordinal = k; object = a_type s } ∷ noted) (le_refl (suc k), tt, below) ds))
 
--- frames
+-- a frame whose bindings also have the ordinals of their declarations
 
 pub record NotedFrame (N : Type 0) : Type 0 where
   pub noted : Noted N
@@ -158,7 +158,7 @@ pub noted_variables-within : {N : Type 0} (k : ℕ) (xs : List N) (v : Value) (f
 noted_variables-within k [] v f below = (refl, below)
 noted_variables-within k (x ∷ xs) v f below = noted_variables-within (suc k) xs v (noted_variable x k v f) (le_refl (suc k), tt, below)
 
--- moves a fact along the scopes and the frames that names extend
+-- Moves a fact along the scopes and the frames to which names are added.
 pub moved : {N X : Type 0} (Goal : ℕ → Scope N → Scope N → X → Frame N → Frame Label → Type 0) (naming : Naming N) (k : ℕ) (xs ys : List N) (v : Value) (f : NotedFrame N) (below : Below k f.noted) (x : X)
     → Goal (after_names (after_names k xs) ys) (declare_names (after_names k xs) ys (scope_of (noted_variables k xs v f).noted)) (scope_of (noted_variables k xs v f).noted) x (frame_by_name (noted_variables k xs v f)) (frame_by_ordinal naming (noted_variables k xs v f))
     → Goal (after_names k (xs ++ ys)) (declare_names k (xs ++ ys) (scope_of f.noted)) (declare_names k xs (scope_of f.noted)) x (allocate xs v (frame_by_name f)) (allocate (label_names (as_label naming) k xs) v (frame_by_ordinal naming f))
@@ -186,7 +186,7 @@ variables_declared naming j k f below (more (declares_variable ns u) gs) =
     naming k (names_listed ns) (variable_names gs) (initial s) f below (j + constructors u)
     (variables_declared naming (j + constructors u) (after_names k (names_listed ns)) (noted_variables k (names_listed ns) (initial s) f) (noted_variables-within k (names_listed ns) (initial s) f below).1 gs)))
 
--- procedures
+-- binds procedures in a noted environment, each with its ordinal and the ordinal of its first ARRAY or RECORD
 
 abbrev pub noted_procedures : {N : Type 0} → ℕ → ℕ → Tree N (items procedure) → Noted N → Noted N
 noted_procedures j k end noted = noted
@@ -214,7 +214,7 @@ procedures-within j k (more p rest) noted below =
     procedures-within (j + procedure_constructors p) (after_procedure (suc k) p) rest (record { name = procedure_name p; ordinal = k; object = a_procedure record { first_constructor = j; text = p } } ∷ noted)
     (le-after_procedure (suc k) p, refl, below)
 
--- blocks
+-- The declarations of a block do the same by name and by ordinal.
 
 pub firsts_declared : {N : Type 0} (naming : Naming N) (j k : ℕ) (noted : Noted N) → Below k noted → (b : Tree N block)
     → Agree by_name (by_ordinal naming) (Within (first_variable k b) (variables_scope k b (scope_of noted)))
@@ -290,7 +290,8 @@ block_declared {N} naming j k f below (has_body (declares cs ts vs ps) statement
     (sym (variables-section naming (as_label naming) (scope_of inner) (first_variable k b) vs))
     (rest_declared naming (after_types j b) (after_variables j b) (first_variable k b) record { noted = inner; store = f.store } within.1 (section_variables vs) ps))))
 
--- parameters
+-- `parameter_names` returns the names of parameters. `label_parameters` returns the parameters with labels instead of
+-- names.
 
 abbrev pub parameter_names : {N : Type 0} → List (Parameter N) → List N
 parameter_names [] = []
@@ -346,7 +347,7 @@ parameters_bound {N} naming k f below (p ∷ ps) (a ∷ args) = go p.mode a (λ 
     go by_value (place_argument place) next = (None, refl, refl, tt)
     go by_value (value_argument v) next = next (noted_variable p.name k v f) (le_refl (suc k), tt, below)
 
--- statements
+-- The statements of a body do the same by name and by ordinal.
 
 pub body-agrees : {N : Type 0} (naming : Naming N) (n : ℕ) (noted : Noted N) → Below n noted → (there : Calls Label) (here : Calls N) → ((x : N) → there (label_in naming noted x) ≡ here x)
     → (t : ℕ) (statements : Tree N (maybe body)) → execute_body as_labels (by_ordinal naming noted) there t (with_names (label_in naming noted) (as_label naming None) statements) ≡ execute_body naming (by_name noted) here t statements
@@ -356,7 +357,7 @@ body-agrees naming n noted below there here h t (one (begins statements)) = λ i
     (execute_all-map (label_in naming noted) (as_label naming None) (statement_meanings as_labels (by_ordinal naming noted)) there t statements
     ∙ (λ j. execute_all (record { object_for = λ x. statement_meanings-agree naming n noted below x j; written = naming.written }) (λ x. h x j) t statements)) i s
 
--- both sides have a frame or neither has, and both continue alike
+-- If frames agree by name and by ordinal and are continued alike, the runs agree.
 pub in_frame-agrees : {N : Type 0} (naming : Naming N) (P : NotedFrame N → Type 0) (s : State) (r : Option (Frame N)) (q : Option (Frame Label)) (here : Frame N → State → Progress) (there : Frame Label → State → Progress)
     → Agree frame_by_name (frame_by_ordinal naming) P r q → ((f : NotedFrame N) → P f → there (frame_by_ordinal naming f) ≡ here (frame_by_name f)) → in_frame s q there ≡ in_frame s r here
 in_frame-agrees naming P s r q here there (a, e, e', holds) next =
@@ -366,9 +367,9 @@ in_frame-agrees naming P s r q here there (a, e, e', holds) next =
     go None holds = refl
     go (Some f) holds = λ i. next f holds i record s { store = f.store }
 
--- calls
+-- ---- calls
 
--- the induction hypothesis: calls with a smaller bound agree
+-- holds if calls do the same by name and by ordinal; this is the induction hypothesis for a smaller bound
 abbrev pub CallsAgree : {N : Type 0} → Naming N → (Activation Label → Calls Label) → (Activation N → Calls N) → Type 0
 CallsAgree {N} naming there here =
     (n : ℕ) (noted : Noted N) → Below n noted → (x : N) → there (by_ordinal naming noted) (label_in naming noted x) ≡ here (by_name noted) x
@@ -376,7 +377,7 @@ CallsAgree {N} naming there here =
 pub statements-relabel : {N : Type 0} (naming : Naming N) (scope : Scope N) (k : ℕ) (b : Tree N block) → block_statements (relabel_block naming (as_label naming) scope k b) ≡ relabel_uses naming (as_label naming) (body_scope k b scope) (block_statements b)
 statements-relabel naming scope k (has_body (declares cs ts vs ps) statements) = refl
 
--- the statements of a declared block, in its frame
+-- The statements of a declared block do the same by name and by ordinal, in its frame.
 pub block-agrees : {N : Type 0} (naming : Naming N) (there : Activation Label → Calls Label) (here : Activation N → Calls N) (known : CallsAgree naming there here) (t k : ℕ) (scope : Scope N) (b : Tree N block) (f : NotedFrame N)
     → FrameWithin (after_block k b) (body_scope k b scope) f
     → execute_body as_labels (by_ordinal naming f.noted) (there (by_ordinal naming f.noted)) t (block_statements (relabel_block naming (as_label naming) scope k b)) ≡ execute_body naming (by_name f.noted) (here (by_name f.noted)) t (block_statements b)
@@ -385,7 +386,8 @@ block-agrees naming there here known t k scope b f within =
     (statements-relabel naming scope k b ∙ ap (λ s. relabel_uses naming (as_label naming) s (block_statements b)) (sym within.0))
     ∙ body-agrees naming (after_block k b) f.noted within.1 (there (by_ordinal naming f.noted)) (here (by_name f.noted)) (known (after_block k b) f.noted within.1) t (block_statements b)
 
--- a procedure's parameters and block, in a frame whose newest binding is the procedure's own
+-- Binding a procedure's parameters and declaring its block does the same by name and by ordinal. The newest binding of
+-- the frame is the procedure's own.
 pub activation_declared : {N : Type 0} (naming : Naming N) (j k : ℕ) (f : NotedFrame N) → Below (suc k) f.noted → (x : N) (outer : Scope N) → scope_of f.noted ≡ (x, k) ∷ outer
     → (fs : Tree N (maybe formals)) (b : Tree N block) (args : List Argument)
     → Agree frame_by_name (frame_by_ordinal naming)
@@ -434,7 +436,7 @@ activate-agrees {N} naming there here known t n (b ∷ noted) below args s = of_
     of_object (a_procedure code) own = of_text code.first_constructor code.text own
     of_object (a_standard p) own = refl
 
--- calls agree, by induction on the number of calls that may be open
+-- Calls do the same by name and by ordinal, by induction on the number of calls that may be open.
 pub calls-agree : {N : Type 0} (naming : Naming N) (c t : ℕ) → CallsAgree naming (call as_labels c t) (call naming c t)
 unfolding call
 calls-agree naming zero t n noted below x = refl
@@ -443,7 +445,7 @@ calls-agree naming (suc c) t n noted below x = λ i args s.
     ∙ (activate-agrees naming (call as_labels c t) (call naming c t) (calls-agree naming c t) t n (noted_from naming noted x) (Below-from naming n noted x below) args s
     ∙ sym (ap (λ env. activate naming (call naming c t) t env args s) (by_name-from naming noted x)))) i
 
--- the outermost block
+-- the noted environment of the outermost block, which has the predeclared names
 abbrev pub noted_outermost : {N : Type 0} → Naming N → Noted N
 noted_outermost naming =
     record { name = naming.predeclared 6; ordinal = 6; object = a_standard writes_line } ∷ record { name = naming.predeclared 5; ordinal = 5; object = a_standard writes } ∷ record { name = naming.predeclared 4; ordinal = 4; object = a_standard reads }
@@ -454,7 +456,7 @@ pub outermost-below : {N : Type 0} (naming : Naming N) → Below 7 (noted_outerm
 outermost-below naming =
     (lit< tt, tt, (lit< tt, tt, (lit< tt, tt, (lit< tt, tt, (lit< tt, tt, (lit< tt, tt, (lit< tt, tt, tt)))))))
 
--- a tree has the same run as its numbered tree
+-- A tree has the same run as its numbered tree.
 pub run-relabel : {N : Type 0} (naming : Naming N) (m : Tree N module_text) (input : List ℤ) (c t : ℕ) → run_over as_labels (relabelled naming (as_label naming) m) input c t ≡ run_over naming m input c t
 unfolding run_over
 run-relabel naming (is_module x b closing) input c t =

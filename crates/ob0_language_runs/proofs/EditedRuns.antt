@@ -1,4 +1,4 @@
--- An edited module has the same run as the original.
+-- An edited module has the same run as the original module.
 use Rattle.std.proofs.Common.{List, None, Option, Some, [], ap, arith, false, if◌then◌else◌, le_refl, length, map, option_and_then, option_map, refl, subst, subst₂, suc, sym, true, zero, ℕ, ℤ, ⊎_elim, ◌++◌, ◌+◌, ◌<◌, ◌∙◌, ◌∷◌, ◌≡◌, ◌≤◌}
 use Rattle.ob0_tree.specs.Tree.{Tree, begins, block, body, declares, declares_procedure, declares_variable, end, formals, further_section, has_body, is_module, item, items, maybe, module_text, more, none, occurrences, one, procedure, sequence, then_section, value_section, variable, variable_section}
 use Rattle.ob0_language_names.specs.Names.{Name, as_names, same_name}
@@ -31,7 +31,7 @@ use Rattle.ob0_language_runs.proofs.RunNaturality.{execute_all-map}
 use Rattle.ob0_language_names.specs.Scopes.{Scope, after_block, after_names, after_procedure, after_procedures, body_scope, declare_names, declare_procedure_names, first_procedure, first_type, first_variable, ordinal_of, predeclared_scope, procedures_scope, variables_scope}
 use Rattle.std.proofs.lemmas.Bool.{cases_Bool}
 
--- a procedure in a run, and the number of the first occurrence in its text
+-- a procedure in a run, with the number of the first occurrence in its text
 pub record Text : Type 0 where
   pub code : ProcedureText Name
   pub at : ℕ
@@ -42,8 +42,8 @@ before k t = t.code
 abbrev pub after : Edit → ℕ → Text → ProcedureText Name
 after edit k t = record { first_constructor = t.code.first_constructor; text = edited_procedure edit t.at (suc k) t.code.text }
 
--- the facts about a procedure that is bound in a run: its name, its occurrences, and the value of
--- the constant if the procedure declares it
+-- The facts about a procedure that is bound in a run: its name, its occurrences, and the value of the constant if the
+-- procedure declares it.
 pub record IsText (edit : Edit) (w : Value) (marks : Marks Place Text) (x : Name) (k : ℕ) (t : Text) : Type 0 where
   pub from_seven : 7 ≤ k
   pub named : procedure_name t.code.text ≡ x
@@ -56,7 +56,7 @@ Run_sound edit w n marks = Sound edit w (IsText edit w) n marks
 abbrev pub LeftRun : Edit → Value → ℕ → Scope Name → Option Known → Marks Place Text → Type 0
 LeftRun edit w = Left edit w (IsText edit w)
 
--- statements
+-- An edit leaves the modes of a procedure's parameters unchanged.
 
 pub sections-modes : (edit : Edit) (j : ℕ) (fs : Tree Name (items further_section)) → formal_modes (leaf edit j fs) ≡ formal_modes fs
 sections-modes edit j end = refl
@@ -88,7 +88,7 @@ seen-passing env (truth true) e = ap passing e
 seen-passing env (truth false) e = ap passing e
 seen-passing env _ e = tt
 
--- a name with its meaning and the effect of calling it
+-- a name's meaning, its spelling, and the effect of calling it
 pub record RunTag : Type 0 where
   pub object : Option (Object Place (List Mode))
   pub text : Name
@@ -137,7 +137,7 @@ body-kept edit w lit n marks s there here kept t j (one (begins a)) known = λ i
     (λ not_shown. ap (execute_all (meanings_before marks) here t) (inline-nothing edit.uses edit.literal j a (none-used edit w j (scope_marked marks) (occurrences a) not_shown known.0)))
     (cases_Bool (shown w (scope_marked marks)))) i state
 
--- frames
+-- a frame whose bindings have ordinals, before and after an edit
 
 pub record MarkedFrame : Type 0 where
   pub marks : Marks Place Text
@@ -165,7 +165,7 @@ pub allocate-places : (xs : List Name) (v : Value) (env : Activation Name) (stor
 allocate-places [] v env store = refl
 allocate-places (x ∷ xs) v env store = allocate-places xs v ((x, a_variable record { variable = length store; path = [] }) ∷ env) (store ++ v ∷ [])
 
--- the marks of new variables
+-- Adding variables for names makes the same marks and the same store before and after the edit.
 pub allocated : (edit : Edit) (w : Value) (k : ℕ) (xs : List Name) (v : Value) (f : MarkedFrame) → Run_sound edit w k f.marks → 7 ≤ k → Outside edit k (after_names k xs)
     → LeftRun edit w (after_names k xs) (declare_names k xs (scope_marked f.marks)) (Some (bind_names xs no_constant (knowns f.marks))) (mark_all k (places xs v f.store) f.marks)
     × (allocate xs v (frame_before f) ≡ frame_before record { marks = mark_all k (places xs v f.store) f.marks; store = stored xs v f.store })
@@ -212,7 +212,7 @@ variables-kept edit w lit i j k f s seven (more (declares_variable ns t) gs) her
     (variables-kept edit w lit (i + constructors t) (j + length (occurrences t)) n inner bound.0.sound (omega (arith, seven, above)) gs
     (subst (λ scope. EachVariable (Here edit w) (j + length (occurrences t)) scope n gs) (sym bound.0.scoped) here.1) (λ l m. outside (omega (arith, l, above)) (omega (arith, m, joined)))))))
 
--- procedures
+-- marks the procedures of a block, each with its ordinal and the number of its first occurrence
 
 abbrev pub mark_procedures : ℕ → ℕ → ℕ → Tree Name (items procedure) → Marks Place Text → Marks Place Text
 mark_procedures i j k end marks = marks
@@ -264,7 +264,7 @@ procedures-right edit w i j k (more p rest) marks s seven here has_value =
     (following, outside-right edit w (procedure_name p) k (a_procedure t) seven (own-outside edit w ((procedure_name p, no_constant) ∷ knowns marks) k p mine), record { from_seven = seven; named = refl; here = here.0; has_value = mine }, s)
     (omega (arith, seven, following)) here.1 (rest-has_value edit w (knowns marks) k p rest has_value)
 
--- a block's declarations
+-- The declarations of a block give the same frame before and after the edit, except a removed constant.
 pub block-kept : (edit : Edit) (w : Value) → Literal edit w → (i j k : ℕ) (f : MarkedFrame) → Run_sound edit w k f.marks → 7 ≤ k → (b : Tree Name block)
     → EachBlock (Here edit w) j (scope_marked f.marks) k b → HasValueBetween edit w k (after_block k b) (value_in_block (knowns f.marks) edit.constant k b)
     → Agree frame_before (frame_after edit) (RightFrame edit w (after_block k b) (body_scope k b (scope_marked f.marks)))
@@ -315,7 +315,7 @@ block-kept edit w lit i j k f s seven (has_body (declares cs ts vs ps) statement
       (right.0 ∙ ap (declare_procedure_names (first_procedure k b) ps) final.scoped, right.1),
     )))))
 
--- parameters
+-- Binding parameters to arguments does the same before and after the edit.
 
 pub parameters-leaf : (edit : Edit) (j : ℕ) (fs : Tree Name (items further_section)) → parameters (leaf edit j fs) ≡ parameters fs
 parameters-leaf edit j end = refl
@@ -355,7 +355,7 @@ parameters-kept edit w k f s seven (p ∷ ps) outside (a ∷ args) =
     go by_value (value_argument v) next = bound record { variable = length f.store; path = [] } (f.store ++ v ∷ []) (next record { variable = length f.store; path = [] } (f.store ++ v ∷ []))
 parameters-kept edit w k f s seven _ outside _ = (None, refl, refl, tt)
 
--- calls
+-- If frames agree before and after the edit and are continued alike, the runs are the same.
 
 pub in_frame-kept : (edit : Edit) (P : MarkedFrame → Type 0) (s : State) (r q : Option (Frame Name)) (here there : Frame Name → State → Progress)
     → Agree frame_before (frame_after edit) P r q → ((f : MarkedFrame) → P f → there (frame_after edit f) ≡ here (frame_before f)) → in_frame s q there ≡ in_frame s r here
@@ -366,7 +366,7 @@ in_frame-kept edit P s r q here there (a, e, e', holds) next =
     go None holds = refl
     go (Some f) holds = λ i. next f holds i record s { store = f.store }
 
--- the induction hypothesis: calls with a smaller bound do the same after the edit
+-- holds if calls do the same after the edit; this is the induction hypothesis for a smaller bound
 abbrev pub CallsKept : Edit → Value → (Activation Name → Calls Name) → (Activation Name → Calls Name) → Type 0
 CallsKept edit w there here =
     (n : ℕ) (marks : Marks Place Text) → Run_sound edit w n marks → (x : Name) → Stays edit (scope_marked marks) x → there (read_edited edit (after edit) marks) x ≡ here (read before marks) x
@@ -375,7 +375,7 @@ pub statements-of : (edit : Edit) (j k : ℕ) (b : Tree Name block) (scope : Sco
     → (m : ℕ) × (block_statements (edited_block edit j k b) ≡ leaf edit m (block_statements b)) × Here edit w (maybe body) m (body_scope k b scope) (block_statements b)
 statements-of edit j k (has_body (declares cs ts vs ps) statements) scope w here = (j + length (occurrences (declares cs ts vs ps)), refl, here.4)
 
--- the statements of a declared block, in its frame
+-- The statements of a declared block do the same before and after the edit, in its frame.
 pub block-runs : (edit : Edit) (w : Value) → Literal edit w → (there here : Activation Name → Calls Name) → CallsKept edit w there here → (t j k : ℕ) (scope : Scope Name) (b : Tree Name block) → EachBlock (Here edit w) j scope k b
     → (f : MarkedFrame) → RightFrame edit w (after_block k b) (body_scope k b scope) f
     → execute_body as_names (read_edited edit (after edit) f.marks) (there (read_edited edit (after edit) f.marks)) t (block_statements (edited_block edit j k b)) ≡ execute_body as_names (read before f.marks) (here (read before f.marks)) t (block_statements b)
@@ -385,7 +385,8 @@ block-runs edit w lit there here known t j k scope b each f right =
     ∙ body-kept edit w lit (after_block k b) f.marks right.1 (there (read_edited edit (after edit) f.marks)) (here (read before f.marks)) (known (after_block k b) f.marks right.1) t st.0 (block_statements b)
     (subst (λ scope. Here edit w (maybe body) st.0 scope (block_statements b)) (sym right.0) st.2)
 
--- a procedure's parameters and block, in a frame whose newest mark is the procedure's own
+-- Binding a procedure's parameters and declaring its block does the same before and after the edit. The newest mark of
+-- the frame is the procedure's own.
 pub activation-kept : (edit : Edit) (w : Value) → Literal edit w → (i j k : ℕ) (f : MarkedFrame) → Run_sound edit w (suc k) f.marks → 7 ≤ k → (x closing : Name) (fs : Tree Name (maybe formals)) (b : Tree Name block)
     → EachBlock (Here edit w) (j + length (occurrences fs)) (declare_names (suc k) (formal_names (formal_sections fs)) (scope_marked f.marks)) (after_names (suc k) (formal_names (formal_sections fs))) b
     → HasValueBetween edit w k (after_procedure (suc k) (declares_procedure x fs b closing)) (value_in_procedure (knowns f.marks) edit.constant (suc k) (declares_procedure x fs b closing)) → (args : List Argument)
@@ -417,7 +418,7 @@ activation-kept edit w lit i j k f s seven x closing fs b each has_value args =
     (subst (λ inner. EachBlock (Here edit w) jb inner n b) (sym left.scoped) each)
     (subst (λ known. HasValueBetween edit w n (after_block n b) (value_in_block known edit.constant n b)) (some_inverse left.value) (body-has_value edit w (knowns f.marks) k x closing fs b has_value)))))
 
--- states that the newest mark isn't removed
+-- holds if the edit doesn't remove the newest mark
 abbrev pub HeadStays : Edit → Marks Place Text → Type 0
 HeadStays edit [] = Unit {0}
 HeadStays edit (b ∷ marks) = is_left edit b.ordinal ≡ false
@@ -464,7 +465,7 @@ activate-kept edit w lit there here known t n (b ∷ marks) sound head args s =
     of_object (a_procedure u) right text = of_text u.code.first_constructor u.at u.code.text right text
     of_object (a_standard p) right text = refl
 
--- calls do the same after the edit, by induction on the number of calls that may be open
+-- Calls do the same after the edit, by induction on the number of calls that may be open.
 pub calls-kept : (edit : Edit) (w : Value) → Literal edit w → (c t : ℕ) → CallsKept edit w (call as_names c t) (call as_names c t)
 unfolding call
 calls-kept edit w lit zero t n marks sound x stays = refl
@@ -473,7 +474,7 @@ calls-kept edit w lit (suc c) t n marks sound x stays = λ i args s.
     ∙ (activate-kept edit w lit (call as_names c t) (call as_names c t) (calls-kept edit w lit c t) t n (marks_from marks x) (Sound-from edit w (IsText edit w) n marks x sound) (head-stays edit marks x stays) args s
     ∙ sym (ap (λ env. activate as_names (call as_names c t) t env args s) (read-from before marks x)))) i
 
--- the run of an edited module
+-- An edited module has the same run as the original module.
 pub run-edited : (edit : Edit) (w : Value) (m : Tree Name module_text) → IsFitted edit w m → (input : List ℤ) (c t : ℕ) → run_over as_names (edited edit m) input c t ≡ run_over as_names m input c t
 unfolding run_over
 run-edited edit w (is_module x b closing) h input c t =

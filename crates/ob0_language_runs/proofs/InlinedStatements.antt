@@ -1,4 +1,4 @@
--- If a constant's value replaces its uses, the execution of a statement is unchanged.
+-- Replacing uses of a constant by its value leaves the execution of a statement unchanged.
 use Rattle.std.proofs.Common.{List, None, Option, Some, [], ap, false, if◌then◌else◌, length, refl, suc, sym, true, ℕ, ◌++◌, ◌+◌, ◌-◌, ◌∙◌, ◌∷◌, ◌≡◌}
 use Rattle.ob0_tree.specs.Tree.{Tree, arguments, assigns, branches, calls, compares, designator, else_branch, else_part, elsif_branch, elsif_part, empty, end, expression, factor, further_argument, further_statement, items, maybe, more, no_arguments, none, occurrences, one, product, repeat_loop, runs, selector, sequence, some_arguments, statement, sum, then_argument, then_statement, while_loop}
 use Rattle.ob0_language_names.specs.Inlining.{Uses, inline_in}
@@ -14,7 +14,7 @@ use Rattle.ob0_language_types.proofs.Inlined.{IsConstantOf, evaluate-inlined, fo
 use Rattle.ob0_language_runs.specs.Laws.{InliningKeepsExecution}
 use Rattle.ob0_language_runs.specs.Runs.{Calls, Progress, State, choose, evaluate_argument, evaluate_arguments, execute, execute_all, execute_else, execute_elsifs, execute_further, continue_with, modes_of, perform, place_argument, store_at, turns, turns_until, use_in, value_argument}
 
--- the fixed fact of an inlining: the factor evaluates to the value in every store
+-- holds if the factor evaluates to the value in every store
 pub record EvaluatesTo (meaning : Meanings Name Place (List Mode)) (v : Tree Name factor) (w : Value) : Type 0 where
   pub in_store : (store : Store) → evaluate_factor meaning store v ≡ gives w
 
@@ -31,7 +31,7 @@ unfolding designate
 designate-written meaning uses v w h store k x path u = λ i.
     object_place (meaning.object_for x) >>= (λ p. or_stuck (read_place store p) >>= (λ z. follow-inlined meaning store uses v w record { has_value = h.in_store store } k z path u i >>= (λ steps. gives record { variable = p.variable; path = p.path ++ steps })))
 
--- neither an expression that isn't a designator nor a constant gives a place
+-- An expression that isn't a designator gives no place, and neither does a constant.
 
 abbrev pub place_at : Meanings Name Place (List Mode) → Store → Option (Name × Tree Name (items selector)) → Outcome Place
 place_at meaning store d = or_stuck d >>= (λ d. designate meaning store d.0 d.1)
@@ -39,7 +39,7 @@ place_at meaning store d = or_stuck d >>= (λ d. designate meaning store d.0 d.1
 pub constant-no_place : (o : Option (Object Place (List Mode))) (w : Value) → o ≡ Some (a_constant w) → object_place o ≡ ends Stuck
 constant-no_place o w e = ap object_place e
 
--- a name that evaluates to a value in every store isn't a variable
+-- A name that evaluates to a value in every store isn't a variable.
 pub has_value-no_place : (o : Option (Object Place (List Mode))) (next : Value → Outcome Value) (w : Value) → object_value {P = List Mode} [] o >>= next ≡ gives w → object_place o ≡ ends Stuck
 has_value-no_place (Some (a_variable p)) next w e = absurd (cc)
 has_value-no_place _ next w e = refl

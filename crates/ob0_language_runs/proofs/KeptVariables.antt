@@ -1,9 +1,7 @@
--- Freeing a call's variables when the call returns changes no run.
--- A list gives the place of each variable of the smaller store in the larger one; no two have the
--- same place. Bindings and arguments differ only in their places. Statements leave the list
--- unchanged, because a call that returns cuts the smaller store back to it. Declarations and
--- parameters add new variables after it (`FrameGrown`). No types are needed: a missing value makes
--- both runs stuck.
+-- Freeing a call's variables when the call returns changes no run. A list `at` gives, for each variable of the smaller
+-- store, its index in the larger store; no two have the same index. Bindings and arguments differ only in their places.
+-- Statements leave the list unchanged, because a call that returns cuts the smaller store back to it. Declarations and
+-- parameters add new variables after it (`FrameGrown`). No types are needed: a missing value makes both runs stuck.
 use Rattle.std.proofs.Common.{◌≡◌, ℕ, zero, suc, ◌+◌, true, false, List, [], ◌∷◌, ◌++◌, length, ℤ, Some, None, Option, option_map, option_and_then, sym, refl, ap, ◌∙◌, subst, append_assoc, append-nil}
 use Rattle.ob0_tree.specs.Tree.{Tree, begins, block, body, constant, declares_constant, declares_type, declares_variable, end, expression, items, maybe, module_text, more, none, one, procedure, type_name, variable, written_type}
 use Rattle.ob0_language_names.specs.Names.{Naming}
@@ -22,7 +20,7 @@ use Rattle.ob0_language_runs.specs.Runs.{Activation, Argument, Calls, ProcedureT
 use Rattle.ob0_language_runs.proofs.OtherPlaces.{Alike, ArgumentIs, ArgumentsAre, EntersAlike, MeaningIs, ObjectIs, PlaceIs, ProgressIs, StateIs, StoreIs, execute_all-alike, variable-added, variable-last, variables-cut}
 use Rattle.ob0_language_runs.proofs.SoundStatements.{slice_get-grows}
 
--- options
+-- holds if both options are None, or their values are related
 
 abbrev pub OptionIs : {A B : Type 0} → (A → B → Type 0) → Option A → Option B → Type 0
 OptionIs Is None None = Unit {0}
@@ -41,7 +39,7 @@ same_option-then {A} Then o q f g e each = subst (λ q. OptionIs Then (option_an
     go None = tt
     go (Some a) = each a
 
--- environments
+-- holds if two environments bind the same names to related objects
 
 abbrev pub EnvironmentIs : {N : Type 0} → List ℕ → Activation N → Activation N → Type 0
 EnvironmentIs at [] [] = Unit {0}
@@ -112,13 +110,13 @@ type-same at (Some (a_procedure s)) (Some (a_procedure t)) h = refl
 type-same at (Some (a_standard s)) (Some (a_standard t)) h = refl
 type-same at _ _ h = absurd h
 
--- frames
+-- holds if two frames have related stores and environments
 
 pub record FrameIs {N : Type 0} (at : List ℕ) (f g : Frame N) : Type 0 where
   pub same_variables : StoreIs at f.store g.store
   pub same_bindings : EnvironmentIs at f.env g.env
 
--- frames with new variables after the variables of the list
+-- holds if two frames are related after new variables were added to the list
 abbrev pub FrameGrown : {N : Type 0} → List ℕ → Frame N → Frame N → Type 0
 FrameGrown at f g = (others : List ℕ) × FrameIs (at ++ others) f g
 
@@ -225,9 +223,9 @@ module _ {N : Type 0} (naming : Naming N) where
       (λ f₁ g₁ grown. frames-on at grown.0 (bind_parameters ps args f₁) (bind_parameters ps others g₁) (parameters-are (at ++ grown.0) ps args others f₁ g₁ (arguments-grow at grown.0 args others are.1) grown.1))
   parameters-are at ps _ _ f g are h = absurd are
 
-  -- calls
+  -- ---- calls
 
-  -- calls that do the same in the same environments
+  -- holds if calls do the same in related environments
   abbrev pub CallsAlike : (Activation N → Calls N) → (Activation N → Calls N) → Type 0
   CallsAlike enter enter' = (at : List ℕ) (env other : Activation N) → EnvironmentIs at env other → (x : N) → EntersAlike at (enter env x) (enter' other x)
 
@@ -240,7 +238,7 @@ module _ {N : Type 0} (naming : Naming N) where
       record { mean_same = λ x. passing-is at (newest (from_binding naming env x)) (newest (from_binding naming other x)) (newest-is at (from_binding naming env x) (from_binding naming other x) (from_binding-is naming at env other x h)); are_written = λ x. refl }
       (known at env other h) t statements s u is
 
-  -- the progress of both runs, with new variables after the variables of the list
+  -- holds if two runs are related after new variables were added to the list
   abbrev ProgressGrown : List ℕ → Progress → Progress → Type 0
   ProgressGrown at p q = (others : List ℕ) × ProgressIs (at ++ others) p q
 
@@ -285,7 +283,7 @@ module _ {N : Type 0} (naming : Naming N) where
   drop_variables-is at others s u (stopped e out) (stopped x written) h is = is
   drop_variables-is at others s u _ _ h is = absurd is
 
-  -- by induction on the number of calls that may be open
+  -- Calls do the same whether or not they free their variables, by induction on the number of calls that may be open.
   calls-alike : (c t : ℕ) → CallsAlike (call_freeing naming c t) (call naming c t)
   unfolding call call_freeing
   calls-alike zero t at env other h x args others s u are is = (refl, is.same_output)

@@ -1,5 +1,5 @@
--- Environments whose bindings also have the ordinals of their declarations. They can be read by
--- name and by ordinal, and a name and its ordinal find the same binding.
+-- Environments whose bindings also have the ordinals of their declarations. Names can be looked up by name and by
+-- ordinal, and a name and its ordinal find the same binding.
 use Rattle.std.proofs.Common.{◌≡◌, ℕ, ◌<◌, ◌≤◌, true, false, List, [], ◌∷◌, Some, refl, le_of_lt, arith}
 use Rattle.ob0_language_names.specs.Names.{Label, Naming, as_labels, declared, same_label}
 use Rattle.ob0_language_names.specs.Parts.{procedure_name}
@@ -37,17 +37,17 @@ numbered_object naming scope k (a_variable p) = a_variable p
 numbered_object naming scope k (a_procedure code) = a_procedure (numbered_code naming scope k code)
 numbered_object naming scope k (a_standard p) = a_standard p
 
--- the environment by ordinal; a procedure's text is numbered in the scope of its declaration
+-- returns the environment by ordinal; a procedure's text is numbered in the scope of its declaration
 abbrev pub by_ordinal : {N : Type 0} → Naming N → Noted N → Activation Label
 by_ordinal naming [] = []
 by_ordinal naming (b ∷ noted) = (declared b.ordinal, numbered_object naming (scope_of noted) b.ordinal b.object) ∷ by_ordinal naming noted
 
--- states that a procedure is bound under its own name
+-- holds if a procedure is bound under its own name
 abbrev pub OwnName : {N : Type 0} → N → Object Place (ProcedureText N) → Type 0
 OwnName x (a_procedure code) = procedure_name code.text ≡ x
 OwnName x _ = Unit {0}
 
--- states that newer bindings have greater ordinals, all below n, so that no ordinal occurs twice
+-- holds if newer bindings have greater ordinals, all below `n`, so that no ordinal occurs twice
 abbrev pub Below : {N : Type 0} → ℕ → Noted N → Type 0
 Below n [] = Unit {0}
 Below n (b ∷ noted) = (b.ordinal < n) × OwnName b.name b.object × Below b.ordinal noted
@@ -56,7 +56,7 @@ pub Below-weaken : {N : Type 0} (m n : ℕ) (noted : Noted N) → m ≤ n → Be
 Below-weaken m n [] h b = tt
 Below-weaken m n (x ∷ noted) h b = (omega (arith, b.0), b.1, b.2)
 
--- the rest of the noted bindings that begins with the first binding of a name
+-- returns the rest of the noted bindings that begins with the first binding of a name
 abbrev pub noted_from : {N : Type 0} → Naming N → Noted N → N → Noted N
 noted_from naming [] x = []
 noted_from naming (b ∷ noted) x = elim (naming.same x b.name) [ true ↦ b ∷ noted | false ↦ noted_from naming noted x ]
@@ -67,7 +67,7 @@ by_name-from naming (b ∷ noted) x =
     elim (naming.same x b.name) as (λ v. (elim v [ true ↦ by_name (b ∷ noted) | false ↦ from_binding naming (by_name noted) x ]) ≡ by_name (elim v [ true ↦ b ∷ noted | false ↦ noted_from naming noted x ]))
     [ true ↦ refl | false ↦ by_name-from naming noted x ]
 
--- the ordinal of a name is below the ordinals of all bindings newer than its own
+-- The ordinal of a name is below the ordinals of all bindings newer than its own.
 pub older_ordinal : {N : Type 0} (naming : Naming N) (n : ℕ) (noted : Noted N) (x : N) → Below n noted → same_label (as_label naming (ordinal_of naming (scope_of noted) x) x) (declared n) ≡ false
 older_ordinal naming n [] x below = refl
 older_ordinal naming n (b ∷ noted) x below =

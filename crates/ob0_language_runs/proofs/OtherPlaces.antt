@@ -1,5 +1,4 @@
--- Two stores, the larger of which has the variables of the smaller one at other places: reads and
--- writes do the same in both.
+-- If a larger store has the variables of a smaller one at other indexes, reads and writes do the same in both stores.
 use Rattle.std.proofs.Common.{◌≡◌, ℕ, zero, suc, ◌-◌, true, false, ◌≢◌, List, [], ◌∷◌, ◌++◌, length, take, ℤ, slice_get, slice_set, Some, None, Option, option_map, option_and_then, sym, refl, ap, ◌∙◌, subst}
 use Rattle.ob0_tree.specs.Tree.{Tree, addend, adds, assigns, branches, calls, compares, designator, else_branch, else_part, elsif_branch, elsif_part, empty, end, expression, factor, field, further_statement, index, integer, items, maybe, more, multiplier, multiplies, negation, none, one, parenthesised, product, relates, repeat_loop, runs, selector, sequence, simple, statement, sum, term, then_statement, while_loop}
 use Rattle.ob0_language_types.specs.Arguments.{arguments_listed}
@@ -11,7 +10,7 @@ use Rattle.ob0_language_values.specs.Values.{Outcome, Place, Store, TurnBound, V
 use Rattle.ob0_language_runs.specs.Runs.{Argument, Calls, Progress, State, Written, choose, evaluate_argument, evaluate_arguments, execute, execute_all, execute_else, execute_elsifs, execute_further, continue_with, line_out, modes_of, number_out, perform, place_argument, append_output, read_number, running, stopped, store_at, turns, turns_until, use_in, value_argument}
 use Rattle.ob0_language_runs.proofs.SoundStatements.{slice_get-grows}
 
--- lists
+-- The last item of a list is at the index of its length before the item was appended.
 
 get-last : {A : Type 0} (xs : List A) (x : A) → slice_get (xs ++ x ∷ []) (length xs) ≡ Some x
 get-last [] x = refl
@@ -31,8 +30,8 @@ get-set_other (y ∷ xs) zero zero new apart = absurd (apart refl)
 get-set_other (y ∷ xs) (suc n) (suc k) new apart = get-set_other xs n k new (λ e. apart (ap suc e))
 get-set_other _ _ _ new apart = refl
 
--- states that the list gives the places of a store's variables in a larger store, and that no place
--- occurs twice
+-- `NotAmong` holds if an index isn't in the list. `StoreIs` holds if the list has no repeats and gives the indexes of a
+-- store's variables in a larger store.
 
 abbrev pub NotAmong : ℕ → List ℕ → Type 0
 NotAmong r [] = Unit {0}
@@ -80,7 +79,7 @@ not-among-cut : (r : ℕ) (at others : List ℕ) → NotAmong r (at ++ others) �
 not-among-cut r [] others h = tt
 not-among-cut r (j ∷ at) others h = (h.0, not-among-cut r at others h.1)
 
--- a new variable at the end of both stores
+-- Adding a new variable at the end of both stores extends the list by its index.
 pub variable-added : (at : List ℕ) (small large : Store) (v : Value) → StoreIs at small large → StoreIs (at ++ length large ∷ []) (small ++ v ∷ []) (large ++ v ∷ [])
 variable-added [] [] large v h = (get-last large v, tt, tt)
 variable-added (r ∷ at) (w ∷ small) large v h =
@@ -93,14 +92,14 @@ variable-last [] [] large k h = refl
 variable-last (r ∷ at) (w ∷ small) large k h = variable-last at small large k h.2
 variable-last _ _ large k h = absurd h
 
--- the smaller store drops its last variables, and the larger one keeps all
+-- The smaller store may drop its last variables while the larger one keeps all.
 pub variables-cut : (at others : List ℕ) (old new before after : Store) → StoreIs at old before → StoreIs (at ++ others) new after → StoreIs at (take (length old) new) after
 variables-cut [] others [] new before after h g = tt
 variables-cut (r ∷ at) others (v ∷ old) [] before after h g = absurd g
 variables-cut (r ∷ at) others (v ∷ old) (w ∷ new) before after h g = (g.0, not-among-cut r at others g.1, variables-cut at others old new before after h.2 g.2)
 variables-cut _ others _ new before after h g = absurd h
 
--- places and the meanings of names
+-- Holds if two places, or two meanings of a name, are the same except for the index of the variable.
 
 pub record PlaceIs (at : List ℕ) (p q : Place) : Type 0 where
   pub variable_is : slice_get at p.variable ≡ Some q.variable
@@ -157,7 +156,7 @@ place-is at (Some (a_procedure a)) (Some (a_procedure b)) is = refl
 place-is at (Some (a_standard a)) (Some (a_standard b)) is = refl
 place-is at _ _ is = absurd is
 
--- expressions
+-- An expression has the same outcome in both stores.
 
 module _ {N P : Type 0} (here there : Meanings N Place P) (small large : Store) (values : (x : N) → object_value small (here.object_for x) ≡ object_value large (there.object_for x)) (written : (x : N) → here.written x ≡ there.written x) where
   mutual
@@ -202,7 +201,7 @@ module _ {N P : Type 0} (here there : Meanings N Place P) (small large : Store) 
     follow-same v (more (index e) rest) = λ i.
         evaluate-same e i >>= (λ j. element_step v j >>= (λ s. or_stuck (part v s) >>= (λ w. follow-same w rest i >>= (λ steps. gives (s ∷ steps)))))
 
--- the meanings of names in both stores
+-- holds if the meanings of names are related in both stores, and fields are spelled alike
 pub record NamesAre {N P : Type 0} (at : List ℕ) (here there : Meanings N Place P) : Type 0 where
   pub mean_same : (x : N) → MeaningIs at (here.object_for x) (there.object_for x)
   pub are_written : (x : N) → here.written x ≡ there.written x
@@ -225,7 +224,7 @@ designate-is at here there small large names h x path =
     (follow-same here there small large (λ x. value-same at small large (here.object_for x) (there.object_for x) h (names.mean_same x)) names.are_written v path)
     (λ steps. record { variable_is = is.variable_is; same_path = ap (λ l. l ++ steps) is.same_path })))
 
--- arguments
+-- holds if two arguments are the same except for the index of a variable
 
 abbrev pub ArgumentIs : List ℕ → Argument → Argument → Type 0
 ArgumentIs at (place_argument p) (place_argument q) = PlaceIs at p q
@@ -255,7 +254,7 @@ arguments-are at here there small large names h (m ∷ ms) (e ∷ es) =
     (λ args others are. (is, are)))
 arguments-are at here there small large names h _ _ = refl
 
--- states
+-- holds if two states have related stores, the same input and the same output
 
 pub record StateIs (at : List ℕ) (s u : State) : Type 0 where
   pub same_variables : StoreIs at s.store u.store
@@ -267,7 +266,7 @@ ProgressIs at (running s) (running u) = StateIs at s u
 ProgressIs at (stopped e out) (stopped x written) = (e ≡ x) × (out ≡ written)
 ProgressIs at _ _ = ⊥
 
--- states that two steps do the same from equal states
+-- holds if two steps do the same from related states
 abbrev pub Alike : List ℕ → (State → Progress) → (State → Progress) → Type 0
 Alike at f g = (s u : State) → StateIs at s u → ProgressIs at (f s) (g u)
 
@@ -321,7 +320,7 @@ read-is at s u p q (n ∷ rest) h is =
 put_out-is : (at : List ℕ) (s u : State) (w : Written) → StateIs at s u → StateIs at (append_output s w) (append_output u w)
 put_out-is at s u w h = record { same_variables = h.same_variables; same_input = h.same_input; same_output = ap (λ out. out ++ w ∷ []) h.same_output }
 
--- calls
+-- The modes and the arguments of a call are the same in both stores.
 
 modes-same : (at : List ℕ) (o q : Option (Object Place (List Mode))) → MeaningIs at o q → modes_of o ≡ modes_of q
 modes-same at None None is = refl
@@ -332,7 +331,7 @@ modes-same at (Some (a_procedure a)) (Some (a_procedure b)) is = ap gives is
 modes-same at (Some (a_standard a)) (Some (a_standard b)) is = ap (λ a. modes_of (Some (a_standard a))) is
 modes-same at _ _ is = absurd is
 
--- states that two calls do the same for equal arguments
+-- holds if two calls do the same with related arguments
 abbrev pub EntersAlike : List ℕ → (List Argument → State → Progress) → (List Argument → State → Progress) → Type 0
 EntersAlike at enter enter' = (args others : List Argument) (s u : State) → ArgumentsAre at args others → StateIs at s u → ProgressIs at (enter args s) (enter' others u)
 
@@ -402,7 +401,7 @@ perform-alike at (Some (a_constant a)) (Some (a_constant b)) enter enter' is ali
 perform-alike at (Some (a_variable a)) (Some (a_variable b)) enter enter' is alike args others s u are h = (refl, h.same_output)
 perform-alike at _ _ enter enter' is alike args others s u are h = absurd is
 
--- statements
+-- Statements do the same in both stores.
 
 turns-alike : (at : List ℕ) (t : ℕ) (test test' : State → Outcome Value) (f g : State → Progress) → ((s u : State) → StateIs at s u → test s ≡ test' u) → Alike at f g → Alike at (turns t test f) (turns t test' g)
 turns-alike at zero test test' f g same alike s u h =

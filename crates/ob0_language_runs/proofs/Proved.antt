@@ -1,4 +1,4 @@
--- The proofs of the laws of runs.
+-- The proofs of the laws about runs.
 use Rattle.std.proofs.Common.{sym, ap, ◌∙◌}
 use Rattle.ob0_language_names.specs.Names.{as_names}
 use Rattle.ob0_language_names.specs.Scopes.{renamed}

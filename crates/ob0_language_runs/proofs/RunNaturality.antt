@@ -1,4 +1,4 @@
--- Statements do the same over other names.
+-- A statement in which names are mapped does the same as the original statement, with the meanings of the new names.
 use Rattle.std.proofs.Common.{◌≡◌, ℕ, ◌-◌, List, [], ◌∷◌, map, Some, None, Option, option_map, refl, ap, ◌∙◌}
 use Rattle.ob0_tree.specs.Tree.{Tree, assigns, branches, calls, else_branch, else_part, elsif_branch, elsif_part, empty, end, expression, further_statement, items, maybe, more, none, one, repeat_loop, runs, selector, sequence, statement, then_statement, while_loop}
 use Rattle.ob0_language_names.specs.Mapping.{with_names}

@@ -1,4 +1,4 @@
--- An expression of a type evaluates to a value of that type, or ends the run other than stuck.
+-- An expression of some type evaluates to a value of that type, or ends the run, but never stuck.
 use Rattle.std.proofs.Common.{◌≡◌, ℕ, zero, suc, ◌<◌, Bool, true, false, T, List, [], ◌∷◌, ℤ, pos, negsuc, ◌+ℤ◌, ◌-ℤ◌, ◌*ℤ◌, neg_ℤ, if◌then◌else◌, nat_lt, slice_get, Some, None, Option, option_and_then, sym, refl, ap, ◌∙◌, subst, subst₂, arith, ltb→lt}
 use Rattle.ob0_tree.specs.declared.tree.Relation.{Relation}
 use Rattle.ob0_tree.specs.declared.tree.Relation.TheVariants as relation
@@ -82,7 +82,7 @@ pub negate-fits : (x z : Shape) (v : Value) → complement_type x ≡ Some z →
 negate-fits boolean_shape z v e hv = of_some (λ z. OutcomeFits (λ u. HasShape u z) (negate v)) e (let (b, ev) = is_truth v hv in subst (λ v. OutcomeFits (λ u. HasShape u boolean_shape) (negate v)) (sym ev) tt)
 negate-fits _ z v e hv = absurd (cc)
 
--- if the left side settles an operation, it has the type of the whole
+-- If the left operand settles an operation, the operand has the type of the result.
 pub add_type-first : (o : AddOperator) (x y z : Shape) → add_type o x y ≡ Some z → Some x ≡ Some z
 add_type-first add_operator.Add integer_shape integer_shape z e = e
 add_type-first add_operator.Subtract integer_shape integer_shape z e = e
@@ -100,7 +100,7 @@ pub settled-fits : (P : Value → Type 0) (b : Bool) (x : Value) (o : Outcome Va
 settled-fits P true x o h k = h
 settled-fits P false x o h k = k
 
--- the parts of a value, according to their types
+-- The parts of a value have the types of the parts of its type.
 
 pub below_of : (m n : ℕ) → nat_lt m n ≡ true → m < n
 below_of m n e = ltb→lt m n (subst (λ b. T b) (sym e) tt)
@@ -152,7 +152,7 @@ place-fits typing store p s h e =
     let (w, ew, hw) = path-fits p.path v t s hv e₁ in
     (w, ap (option_and_then (at_path p.path)) ev ∙ ew, hw)
 
--- a constant or a variable evaluates to a value of its type
+-- A constant or a variable evaluates to a value of its type.
 pub object-fits : (typing : StoreTyping) (store : Store) (checked : Option (Object Shape Signature)) (active : Option (Object Place (List Mode))) (s : Shape)
     → StoreFits typing store → ObjectFits typing checked active → object_type checked ≡ Some s → OutcomeFits (λ v. HasShape v s) (object_value store active)
 object-fits typing store (Some (a_constant v)) (Some (a_constant w)) s h o e =
@@ -178,7 +178,7 @@ pub is_elements : (v : Value) (k n : ℕ) (s : Shape) → HasShape v (array_shap
 is_elements (elements vs) k n s h = (vs, refl)
 is_elements _ k n s h = absurd h
 
--- an index in range gives a step to an element
+-- An index in range gives a step to an element.
 pub index-fits : (vs : Values) (k n : ℕ) (s t : Shape) (i : ℤ) → count_values vs ≡ n → Some s ≡ Some t → OutcomeFits (λ step. part_shape (array_shape k n s) step ≡ Some t) (element_step (elements vs) (number i))
 index-fits vs k n s t (negsuc i) c e = λ e. cc
 index-fits vs k n s t (pos i) c e =
@@ -197,7 +197,7 @@ pub field_part : (t : Shape) (x : Name) (u : Shape) → field_type t x ≡ Some 
 field_part (record_shape k fs) x u e = e
 field_part _ x u e = absurd (cc)
 
--- states that the store fits its typing, and that the meanings of names fit the checker's
+-- holds if the store fits its typing, and the meanings of names fit the checker's
 pub record Fitting {N : Type 0} (typing : StoreTyping) (checked : Typed N) (active : Meanings N Place (List Mode)) (store : Store) : Type 0 where
   pub store_fits : StoreFits typing store
   pub names_fit : MeaningsFit typing checked active

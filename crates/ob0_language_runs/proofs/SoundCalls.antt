@@ -1,5 +1,4 @@
--- Calls and whole modules preserve the typing of the store, so no run of a well-typed module gets
--- stuck.
+-- Calls and whole modules preserve the typing of the store. So no run of a well-typed module gets stuck.
 use Rattle.std.proofs.Common.{◌≡◌, ℕ, zero, suc, ◌+◌, Bool, true, false, ◌&&◌, ◌≢◌, List, [], ◌∷◌, ◌++◌, map, length, ℤ, slice_get, Some, None, Option, option_map, option_and_then, unwrap_or, sym, refl, ap, ◌∙◌, subst, append_assoc, append-nil}
 use Rattle.ob0_tree.specs.Tree.{Tree, begins, block, body, constant, declares, declares_constant, declares_procedure, declares_type, declares_variable, end, expression, further_section, has_body, is_module, item, items, maybe, module_text, more, none, one, procedure, then_section, type_name, variable, written_type}
 use Rattle.ob0_language_names.specs.Names.{Naming, as_names}
@@ -23,9 +22,9 @@ use Rattle.ob0_language_runs.proofs.SoundStatements.{ObjectFits-grows, PlaceFits
 use Rattle.ob0_language_runs.specs.Fitting.{ArgumentsFit, BindingFits, EnvironmentsFit, EachHasShape, HasShape, HaveShapes, ObjectFits, StoreFits, StoreTyping, modes_in, shape_at_path}
 use Rattle.ob0_language_runs.proofs.Soundness.{CallsFit, ProgressFits}
 
--- environments that fit
+-- ---- environments that fit
 
--- the modes of checked parameters are the modes in the heading
+-- The modes of checked parameters are the modes in the heading.
 pub modes-of_parameters : {N : Type 0} (f : Formal) (xs : List N) (ps : List (TypedParameter N)) → modes_in (map (λ p. p.formal) (map (typed_parameter f) xs ++ ps)) ≡ map (λ x. f.mode) xs ++ modes_in (map (λ p. p.formal) ps)
 modes-of_parameters f [] ps = refl
 modes-of_parameters f (x ∷ xs) ps = λ i. f.mode ∷ modes-of_parameters f xs ps i
@@ -80,7 +79,7 @@ environments-grow naming typing others [] [] h = tt
 environments-grow naming typing others (b ∷ checked) (d ∷ active) h = (h.0, binding-grows naming typing others checked b.0 b.1 d.1 h.1, environments-grow naming typing others checked active h.2)
 environments-grow naming typing others _ _ h = h
 
--- the first values of variables
+-- The first value of a variable has the variable's type.
 
 pub copies-fit : (n : ℕ) (v : Value) (s : Shape) → HasShape v s → (count_values (copies n v) ≡ n) × EachHasShape (copies n v) s
 copies-fit zero v s h = (refl, tt)
@@ -96,7 +95,7 @@ mutual
   initial_members-fit no_field_shape = tt
   initial_members-fit (next_field_shape x s rest) = (refl, initial-fits s, initial_members-fit rest)
 
--- a new variable at the end of the store
+-- A store with a new variable at its end fits the typing with the variable's type at its end.
 
 pub store-appends : (typing : StoreTyping) (store : Store) (s : Shape) (v : Value) → StoreFits typing store → HasShape v s → StoreFits (typing ++ s ∷ []) (store ++ v ∷ [])
 store-appends [] [] s v h hv = (hv, tt)
@@ -108,7 +107,7 @@ last-shape [] [] s h = refl
 last-shape (t ∷ typing) (w ∷ store) s h = last-shape typing store s h.1
 last-shape _ _ s h = absurd h
 
--- declarations
+-- Declarations make bindings that fit the bindings of the checked module.
 
 pub passing-constant : {N : Type 0} (o : Option (Object Place (ProcedureText N))) → constant_of (passing o) ≡ constant_of o
 passing-constant (Some (a_type s)) = refl
@@ -170,7 +169,7 @@ types-run {N} naming typing checked active k (more (declares_type x u) cs) after
     let (d, ed, fit) = types-run naming typing ((x, a_type s) ∷ checked) ((x, a_type s) ∷ active) (k + constructors u) cs after (refl, refl, h) e₁ in
     (d, ap (option_and_then (λ s. declare_types naming ((x, a_type s) ∷ active) (k + constructors u) cs)) (denoted-same naming typing checked active h k u ∙ es) ∙ ed, fit)
 
--- states that a frame fits a checked environment, in a store that has grown
+-- holds if a frame fits a checked environment in a store that has at most grown
 abbrev pub FrameFits : {N : Type 0} → Naming N → StoreTyping → TypeEnvironment N → Frame N → Type 0
 FrameFits naming typing checked f = (others : StoreTyping) × StoreFits (typing ++ others) f.store × EnvironmentsFit naming (typing ++ others) checked f.env
 
@@ -230,7 +229,7 @@ block-run {N} naming typing checked k (has_body (declares cs ts vs ps) statement
       fits,
     )
 
--- parameters
+-- Binding parameters to arguments that fit makes bindings that fit the parameters' types.
 
 abbrev pub as_parameter : {N : Type 0} → TypedParameter N → Parameter N
 as_parameter p = record { mode = p.formal.mode; name = p.name }
@@ -268,7 +267,7 @@ parameters-run {N} naming typing checked (p ∷ ps) (value_argument v ∷ args) 
     (g, ap (λ m. option_and_then (bind_parameters (map as_parameter ps) args) (bind_parameter m p.name (value_argument v) f)) h.0 ∙ eg, frame-grown naming typing (p.formal.shape ∷ []) (bind_typed ps ((p.name, a_variable p.formal.shape) ∷ checked)) g fit)
 parameters-run naming typing checked _ _ f store env h = absurd h
 
--- bodies and calls
+-- Bodies and calls preserve the typing of the store.
 
 pub body-run : {N : Type 0} (naming : Naming N) (typing : StoreTyping) (checked : TypeEnvironment N) (active : Activation N) (enter : Calls N) (t : ℕ) (statements : Tree N (maybe body)) (s : State) → EnvironmentsFit naming typing checked active → CallsFit typing (meanings naming checked) enter
     → StoreFits typing s.store → body_fits naming checked statements ≡ true → ProgressFits typing (execute_body naming active enter t statements s)
@@ -278,7 +277,7 @@ body-run naming typing checked active enter t (one (begins statements)) s env ca
     keeps-here typing (execute_all (statement_meanings naming active) enter t statements)
     (execute_all-keeps typing (meanings naming checked) (statement_meanings naming active) enter record { names_fit = (names-fit naming typing checked active env, λ x. refl); calls_fit = calls_fit } t statements h) s store
 
--- the induction hypothesis: calls with a smaller bound preserve the typing
+-- holds if calls preserve the typing; this is the induction hypothesis for a smaller bound
 abbrev pub CallsRun : {N : Type 0} → Naming N → (Activation N → Calls N) → Type 0
 CallsRun {N} naming enter =
     (typing : StoreTyping) (checked : TypeEnvironment N) (active : Activation N) → EnvironmentsFit naming typing checked active → CallsFit typing (meanings naming checked) (enter active)
@@ -307,7 +306,7 @@ activate-run {N} naming enter known t typing ((x, o) ∷ checked) ((y, r) ∷ ac
     of_objects (a_procedure q) _ h e = absurd h
     of_objects _ r h e = absurd (cc)
 
--- calls preserve the typing, by induction on the number of calls that may be open
+-- Calls preserve the typing, by induction on the number of calls that may be open.
 pub calls-run : {N : Type 0} (naming : Naming N) (c t : ℕ) → CallsRun naming (call naming c t)
 unfolding call
 calls-run naming zero t typing checked active env x signature e others args s fit store = λ h. cc
@@ -319,7 +318,7 @@ pub not-stuck : (typing : StoreTyping) (p : Progress) → ProgressFits typing p 
 not-stuck typing (running s) h = λ e. cc
 not-stuck typing (stopped e out) h = h
 
--- no run of a well-typed module gets stuck
+-- No run of a well-typed module gets stuck.
 pub fitting-run : {N : Type 0} (naming : Naming N) (m : Tree N module_text) (input : List ℤ) (c t : ℕ) → fits_over naming m ≡ true → (run_over naming m input c t).ending ≢ Stuck
 unfolding run_over fits_over
 fitting-run {N} naming (is_module x b closing) input c t h =

@@ -1,4 +1,4 @@
--- A well-typed statement preserves the typing of the store, or ends the run other than stuck.
+-- A well-typed statement preserves the typing of the store, or ends the run, but never stuck.
 use Rattle.std.proofs.Common.{◌≡◌, ℕ, zero, suc, ◌-◌, true, false, ◌&&◌, List, [], ◌∷◌, ◌++◌, ℤ, if◌then◌else◌, nat_lt, slice_get, slice_set, Some, None, Option, option_map, option_and_then, unwrap_or, sym, refl, ap, ◌∙◌, subst, append_assoc, append-nil}
 use Rattle.ob0_tree.specs.Tree.{Tree, assigns, branches, calls, else_branch, else_part, elsif_branch, elsif_part, empty, end, expression, further_statement, items, maybe, more, none, one, repeat_loop, runs, selector, sequence, statement, then_statement, while_loop}
 use Rattle.ob0_language_names.specs.Names.{Name, same_name}
@@ -13,7 +13,7 @@ use Rattle.ob0_language_runs.proofs.Sound.{Fitting, evaluate-sound, fits-then, f
 use Rattle.ob0_language_runs.specs.Fitting.{ArgumentsFit, EachHasShape, HasShape, HaveShapes, MeaningsFit, ObjectFits, PlaceFits, StoreFits, StoreTyping, modes_in, part_shape, shape_at_path}
 use Rattle.ob0_language_runs.proofs.Soundness.{CallsFit, OutcomeFits, ProgressFits}
 
--- a typing may grow
+-- Facts about a typing also hold after it has grown.
 
 pub slice_get-grows : {A : Type 0} (xs others : List A) (n : ℕ) (x : A) → slice_get xs n ≡ Some x → slice_get (xs ++ others) n ≡ Some x
 slice_get-grows [] others n x e = absurd (cc)
@@ -44,7 +44,7 @@ pub ProgressFits-grown : (typing others : StoreTyping) (p : Progress) → Progre
 ProgressFits-grown typing others (running s) h = (others ++ h.0, subst (λ all. StoreFits all s.store) (append_assoc typing others h.0) h.1)
 ProgressFits-grown typing others (stopped e out) h = h
 
--- writing a value preserves types
+-- Writing a value of the right type preserves the type of the whole value.
 
 pub with_nth-fits : (vs : Values) (s : Shape) (i : ℕ) (new : Value) → EachHasShape vs s → HasShape new s → (count_values (with_nth_value vs i new) ≡ count_values vs) × EachHasShape (with_nth_value vs i new) s
 with_nth-fits no_value s i new h hn = (refl, tt)
@@ -98,7 +98,7 @@ store_at-fits typing s p shape new h place hn =
     subst (λ o. ProgressFits typing (use_in s (or_stuck o) (λ store. running record s { store = store }))) (sym wrote)
     ([], subst (λ all. StoreFits all (slice_set s.store p.variable w)) (sym (append-nil typing)) (set-fits typing s.store p.variable t w h et hw))
 
--- places
+-- A place that is found for a designator has the designator's type.
 
 pub shape_at_path-append : (a b : List Step) (s : Shape) → shape_at_path (a ++ b) s ≡ option_and_then (shape_at_path b) (shape_at_path a s)
 shape_at_path-append [] b s = refl
@@ -129,7 +129,7 @@ designate-sound typing checked active store f x path s h =
     (λ steps e. let (u, eu, e₁) = some-gives (slice_get typing p.variable) (shape_at_path p.path) t hp in
     ap (option_and_then (shape_at_path (p.path ++ steps))) eu ∙ (shape_at_path-append p.path steps u ∙ (ap (option_and_then (shape_at_path steps)) e₁ ∙ e)))))
 
--- arguments
+-- Arguments that fit evaluate to arguments that fit.
 
 pub argument-sound : {N : Type 0} (typing : StoreTyping) (checked : Typed N) (active : Meanings N Place (List Mode)) (store : Store) → Fitting typing checked active store → (f : Formal) (e : Tree N expression)
     → argument_fits checked f e ≡ true → OutcomeFits (λ a. ArgumentsFit typing (f ∷ []) (a ∷ [])) (evaluate_argument active store f.mode e)
@@ -167,7 +167,7 @@ arguments-sound typing checked active store fit (f ∷ fs) (e ∷ es) h =
     (λ rest hr. first-argument typing f fs a rest ha hr))
 arguments-sound typing checked active store fit _ _ h = absurd (cc)
 
--- calls
+-- Calls with arguments that fit preserve the typing.
 
 pub use_in-fits : {A : Type 0} (typing : StoreTyping) (P : A → Type 0) (s : State) (o : Outcome A) (next : A → Progress) → OutcomeFits P o → ((a : A) → P a → ProgressFits typing (next a)) → ProgressFits typing (use_in s o next)
 use_in-fits typing P s (gives a) next h each = each a h
@@ -228,9 +228,9 @@ perform-fits typing (Some (a_constant t)) active signature enter args s o e h fi
 perform-fits typing (Some (a_variable t)) active signature enter args s o e h fit called = absurd (cc)
 perform-fits typing _ _ signature enter args s o e h fit called = absurd o
 
--- statements
+-- ---- statements
 
--- the context that a statement needs: names and calls that fit
+-- the context that a statement needs: meanings of names and calls that fit
 pub record Sound {N : Type 0} (typing : StoreTyping) (checked : Typed N) (active : Meanings N Place (List Mode)) (enter : Calls N) : Type 0 where
   pub names_fit : MeaningsFit typing checked active
   pub calls_fit : CallsFit typing checked enter
@@ -239,7 +239,7 @@ pub Sound-grows : {N : Type 0} (typing others : StoreTyping) (checked : Typed N)
 Sound-grows typing others checked active enter h =
     record { names_fit = (λ x. ObjectFits-grows typing others (checked.object_for x) (active.object_for x) (h.names_fit.0 x), h.names_fit.1); calls_fit = CallsFit-grows typing others checked enter h.calls_fit }
 
--- states that a body preserves the typing, however much the store has grown
+-- holds if a body preserves the typing, however much the store has grown
 abbrev pub Keeps : StoreTyping → (State → Progress) → Type 0
 Keeps typing statements = (others : StoreTyping) (s : State) → StoreFits (typing ++ others) s.store → ProgressFits (typing ++ others) (statements s)
 
@@ -256,7 +256,7 @@ choose-fits typing s (truth true) yes' no' h hy hn = hy
 choose-fits typing s (truth false) yes' no' h hy hn = hn
 choose-fits typing s _ yes' no' h hy hn = absurd h
 
--- states that a condition evaluates to a truth value in every store that has grown
+-- holds if a condition evaluates to a truth value in every store that has grown
 abbrev pub IsCondition : StoreTyping → (State → Outcome Value) → Type 0
 IsCondition typing condition = (others : StoreTyping) (s : State) → StoreFits (typing ++ others) s.store → OutcomeFits (λ v. HasShape v boolean_shape) (condition s)
 

@@ -6,18 +6,17 @@ use Rattle.ob0_language_types.specs.WellTyped.{Signature, Typed}
 use Rattle.ob0_language_runs.specs.Fitting.{ArgumentsFit, StoreFits, StoreTyping}
 use Rattle.ob0_language_runs.specs.Runs.{Argument, Calls, Progress, State, running, stopped}
 
--- states that an outcome has the property, or ends the run other than stuck
+-- holds if an outcome gives a result with the property, or ends the run other than stuck
 abbrev pub OutcomeFits : {A : Type 0} → (A → Type 0) → Outcome A → Type 0
 OutcomeFits Fits (gives a) = Fits a
 OutcomeFits Fits (ends e) = e ≢ Stuck
 
--- states that a run continues with a store whose typing has at most grown, or ends other than stuck
+-- holds if a run continues with a store whose typing has at most grown, or ends other than stuck
 abbrev pub ProgressFits : StoreTyping → Progress → Type 0
 ProgressFits typing (running s) = (others : StoreTyping) × StoreFits (typing ++ others) s.store
 ProgressFits typing (stopped e out) = e ≢ Stuck
 
--- states that calls with arguments of the signature preserve the invariant, in every store that has
--- grown since
+-- holds if calls with arguments of the signature preserve the invariant, in every store that has grown since
 abbrev pub CallsFit : {N : Type 0} → StoreTyping → Typed N → Calls N → Type 0
 CallsFit {N} typing checked enter =
     (x : N) (signature : Signature) → checked.object_for x ≡ Some (a_procedure signature) → (others : StoreTyping) (args : List Argument) (s : State)

@@ -1,4 +1,4 @@
--- Worked runs. Each lemma is one run, computed by the prover.
+-- Worked examples of runs. Each lemma is one run, which the prover computes.
 use Rattle.std.proofs.Common.{◌≡◌, [], ◌∷◌, pos, negsuc, refl}
 use Rattle.ob0_language_names.specs.Names.{as_names}
 use Rattle.ob0_language_names.proofs.WorkedTrees.{activations, aliases, captured_variable, divisions, least_constant, least_constant_gone, least_constant_inlined, negative_divisor, records, recursion, recursion_renamed, repeats, shadowed_variable, sign_overflows, store_of_calls, sum_overflows, turns_and_calls, visible_later, visible_later_renamed}
@@ -122,8 +122,8 @@ pub store_of_calls-run-1 : run store_of_calls [] 2 1 ≡ record { output = numbe
 unfolding run
 store_of_calls-run-1 = refl
 
--- the variables of each call begin anew and its VAR parameter refers to the same place, whether or
--- not calls drop their variables
+-- Each call gets new variables, and its VAR parameter refers to the same place. This doesn't depend on whether calls
+-- drop their variables.
 pub store_of_calls-freed-1 : run_freeing as_names store_of_calls [] 2 1 ≡ record { output = number_out (pos 10) ∷ number_out (pos 10) ∷ number_out (pos 10) ∷ []; ending = Done }
 unfolding run_freeing
 store_of_calls-freed-1 = refl

@@ -11,12 +11,11 @@ use Rattle.ob0_language_types.specs.EditLaws.{AreUsesOf, IsConstantWritten, IsPr
 use Rattle.ob0_language_types.specs.WellTyped.{WellTyped}
 use Rattle.ob0_language_runs.specs.Runs.{run}
 
--- states that two modules have the same run for every input and all bounds
+-- holds if two modules have the same run for every input and all bounds on calls and turns
 abbrev pub SameRuns : Tree Name module_text → Tree Name module_text → Type 0
 SameRuns a b = (input : List ℤ) (c t : ℕ) → run a input c t ≡ run b input c t
 
--- a well-typed module remains well-typed and has the same runs after a declaration is renamed to a
--- free name
+-- A well-typed module remains well-typed and has the same runs after a declaration is renamed to a free name.
 abbrev pub FreeKeepsModules : Type 0
 FreeKeepsModules =
     (m : Tree Name module_text) (d : ℕ) (new : Name)
@@ -24,8 +23,8 @@ FreeKeepsModules =
     → WellTyped m
     → WellTyped (renamed m d new) × SameRuns (renamed m d new) m
 
--- a well-typed module remains well-typed and has the same runs if a constant's literal replaces
--- uses at which it has the constant's value
+-- A well-typed module remains well-typed and has the same runs if uses of a constant are replaced by its literal. The
+-- literal must have the constant's value at each of these uses.
 abbrev pub InliningKeepsModules : Type 0
 InliningKeepsModules =
     (m : Tree Name module_text) (d : ℕ) (w : Value) (v : Tree Name factor) (uses : Uses)
@@ -34,8 +33,8 @@ InliningKeepsModules =
     → WellTyped m
     → WellTyped (inlined m uses v) × SameRuns (inlined m uses v) m
 
--- a well-typed module remains well-typed and has the same runs without the declaration of a
--- constant that no occurrence is bound to
+-- A well-typed module remains well-typed and has the same runs without the declaration of a constant that no occurrence
+-- is bound to.
 abbrev pub LeavingOutKeepsModules : Type 0
 LeavingOutKeepsModules =
     (m : Tree Name module_text) (d : ℕ) (w : Value) (v : Tree Name factor)
@@ -44,8 +43,8 @@ LeavingOutKeepsModules =
     → WellTyped m
     → WellTyped (module_without d m) × SameRuns (module_without d m) m
 
--- a well-typed module remains well-typed and has the same runs if a constant's literal replaces all
--- its uses and its declaration is removed; the literal must have the constant's value at each use
+-- A well-typed module remains well-typed and has the same runs after a constant is inlined everywhere. Its literal then
+-- replaces all its uses, and its declaration is removed. The literal must have the constant's value at each use.
 abbrev pub InliningEverywhereKeepsModules : Type 0
 InliningEverywhereKeepsModules =
     (m : Tree Name module_text) (d : ℕ) (w : Value) (v : Tree Name factor)

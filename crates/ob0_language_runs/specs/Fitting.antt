@@ -1,5 +1,4 @@
--- The facts that values, places and the meanings of names in a run fit the types that the checker
--- gives them.
+-- The values, places and meanings of names in a run that fit the types that the checker gives them.
 -- Rule: docs/LANGUAGE.md, Runs 11.
 use Rattle.std.specs.Prelude.{◌≡◌, true, List, [], ◌∷◌, map, if◌then◌else◌, nat_lt, slice_get, Some, None, Option, option_and_then}
 use Rattle.ob0_language_names.specs.Names.{Naming}
@@ -10,10 +9,10 @@ use Rattle.ob0_language_types.specs.WellTyped.{Mode, Signature, TypeEnvironment,
 use Rattle.ob0_language_values.specs.Values.{FieldShapes, Members, Place, Shape, Step, Store, Value, Values, array_shape, at_field, at_index, boolean_shape, count_values, elements, integer_shape, members, next_field_shape, next_member, next_value, no_field_shape, no_member, no_value, number, record_shape, truth}
 use Rattle.ob0_language_runs.specs.Runs.{Activation, Argument, ProcedureText, passing, place_argument, value_argument}
 
--- states that a value has a type
+-- Holds if a value has a type.
 abbrev mutual
-  -- a value: an array has the length of its type, a record comes from the RECORD of its type, and
-  -- the parts have the types of the parts
+  -- Holds if a value has this type. An array has the length of its type, and a record comes from the RECORD of its
+  -- type. The parts of the value have the types of the type's parts.
   pub HasShape : Value → Shape → Type 0
   HasShape (number n) integer_shape = Unit {0}
   HasShape (truth b) boolean_shape = Unit {0}
@@ -21,25 +20,26 @@ abbrev mutual
   HasShape (members j ms) (record_shape k fs) = (j ≡ k) × HaveShapes ms fs
   HasShape _ _ = ⊥
 
-  -- all elements of an array, which have this type
+  -- holds if all elements of an array have this type
   pub EachHasShape : Values → Shape → Type 0
   EachHasShape no_value s = Unit {0}
   EachHasShape (next_value v rest) s = HasShape v s × EachHasShape rest s
 
-  -- the members of a record, each with the name and the type of its field
+  -- holds if the members of a record have the names and the types of the fields, one by one
   pub HaveShapes : Members → FieldShapes → Type 0
   HaveShapes no_member no_field_shape = Unit {0}
   HaveShapes (next_member x v rest) (next_field_shape y s others) =
       (x ≡ y) × HasShape v s × HaveShapes rest others
   HaveShapes _ _ = ⊥
 
--- the type of the part that one step selects; None if an index isn't below the length
+-- returns the type of the part that one step selects; None if there is no such part, for example if an index isn't
+-- below the length
 abbrev pub part_shape : Shape → Step → Option Shape
 part_shape (array_shape k n s) (at_index i) = if nat_lt i n then Some s else None
 part_shape (record_shape k fs) (at_field x) = shape_of_field fs x
 part_shape _ _ = None
 
--- the type of the part that a path selects
+-- returns the type of the part that a path selects; None if there is no such part
 abbrev pub shape_at_path : List Step → Shape → Option Shape
 shape_at_path [] s = Some s
 shape_at_path (step ∷ path) s = option_and_then (shape_at_path path) (part_shape s step)
@@ -48,21 +48,21 @@ shape_at_path (step ∷ path) s = option_and_then (shape_at_path path) (part_sha
 abbrev pub StoreTyping : Type 0
 StoreTyping = List Shape
 
--- states that each variable has a value of its type
+-- holds if each variable of the store has a value of its type
 abbrev pub StoreFits : StoreTyping → Store → Type 0
 StoreFits [] [] = Unit {0}
 StoreFits (s ∷ ss) (v ∷ vs) = HasShape v s × StoreFits ss vs
 StoreFits _ _ = ⊥
 
--- states that a place is of this type
+-- holds if a place has this type
 abbrev pub PlaceFits : StoreTyping → Place → Shape → Type 0
 PlaceFits typing p s = option_and_then (shape_at_path p.path) (slice_get typing p.variable) ≡ Some s
 
--- the modes of a procedure's parameters
+-- returns the modes of a procedure's parameters
 abbrev pub modes_in : Signature → List Mode
 modes_in = map (λ f. f.mode)
 
--- states that the meaning of a name in a run fits its meaning in the checked module
+-- holds if the meaning of a name in a run fits its meaning in the checked module, or it has none in both
 abbrev pub ObjectFits : StoreTyping
     → Option (Object Shape Signature)
     → Option (Object Place (List Mode))
@@ -76,7 +76,7 @@ ObjectFits typing (Some (a_procedure signature)) (Some (a_procedure modes)) =
 ObjectFits typing (Some (a_standard p)) (Some (a_standard q)) = p ≡ q
 ObjectFits typing _ _ = ⊥
 
--- states that the meanings of all names in a run fit those in the checked module
+-- holds if the meanings of all names in a run fit those in the checked module, and fields are spelled alike
 abbrev pub MeaningsFit : {N : Type 0}
     → StoreTyping
     → Typed N
@@ -86,7 +86,7 @@ MeaningsFit {N} typing checked active =
     ((x : N) → ObjectFits typing (checked.object_for x) (active.object_for x))
     × ((x : N) → checked.written x ≡ active.written x)
 
--- states that the arguments of a call fit the signature of the called procedure
+-- holds if the arguments of a call fit the signature of the called procedure, one by one
 abbrev pub ArgumentsFit : StoreTyping → Signature → List Argument → Type 0
 ArgumentsFit typing [] [] = Unit {0}
 ArgumentsFit typing (f ∷ fs) (place_argument p ∷ args) =
@@ -95,8 +95,8 @@ ArgumentsFit typing (f ∷ fs) (value_argument v ∷ args) =
     (f.mode ≡ by_value) × HasShape v f.shape × ArgumentsFit typing fs args
 ArgumentsFit typing _ _ = ⊥
 
--- states that the binding of a name in an activation fits its binding in a checked environment,
--- given the earlier bindings of that environment
+-- holds if the binding of a name in an activation fits its binding in a checked environment, given the earlier bindings
+-- of that environment
 abbrev pub BindingFits : {N : Type 0}
     → Naming N
     → StoreTyping
@@ -114,7 +114,7 @@ BindingFits {N} naming typing checked x (a_procedure signature) (a_procedure cod
     ≡ true)
 BindingFits naming typing checked x o r = ObjectFits typing (Some o) (passing (Some r))
 
--- states that the environment of a run fits the checked environment, binding by binding
+-- holds if the environment of a run fits the checked environment, binding by binding
 abbrev pub EnvironmentsFit : {N : Type 0}
     → Naming N
     → StoreTyping

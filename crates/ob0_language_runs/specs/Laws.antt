@@ -13,13 +13,13 @@ use Rattle.ob0_language_types.specs.WellTyped.{Mode, WellTyped}
 use Rattle.ob0_language_runs.specs.Freed.{run_freeing}
 use Rattle.ob0_language_runs.specs.Runs.{Calls, State, execute, run, run_numbered, run_over}
 
--- a module has the same run as its numbered tree
+-- A module has the same run as its numbered tree.
 abbrev pub RunsByOrdinal : Type 0
 RunsByOrdinal =
     (m : Tree Name module_text) (input : List ℤ) (c t : ℕ)
     → run m input c t ≡ run_numbered (numbered m) input c t
 
--- two modules with the same numbered tree have the same runs
+-- Two modules with the same numbered tree have the same runs.
 abbrev pub RunsByShape : Type 0
 RunsByShape =
     (a b : Tree Name module_text)
@@ -27,7 +27,7 @@ RunsByShape =
     → (input : List ℤ) (c t : ℕ)
     → run a input c t ≡ run b input c t
 
--- a module has the same runs after a declaration is renamed to a free name
+-- A module has the same runs after a declaration is renamed to a free name.
 abbrev pub FreeKeepsRuns : Type 0
 FreeKeepsRuns =
     (m : Tree Name module_text) (d : ℕ) (new : Name)
@@ -35,7 +35,7 @@ FreeKeepsRuns =
     → (input : List ℤ) (c t : ℕ)
     → run (renamed m d new) input c t ≡ run m input c t
 
--- dropping a call's variables when the call returns changes no run of any tree, under any naming
+-- Dropping a call's variables when the call returns changes no run of any tree, under any naming.
 abbrev pub FreeingKeepsRuns : Type 0
 FreeingKeepsRuns =
     ((naming : Naming Name) (m : Tree Name module_text) (input : List ℤ) (c t : ℕ)
@@ -43,7 +43,7 @@ FreeingKeepsRuns =
     × ((naming : Naming Label) (m : Tree Label module_text) (input : List ℤ) (c t : ℕ)
     → run_freeing naming m input c t ≡ run_over naming m input c t)
 
--- no run of a well-typed module gets stuck
+-- No run of a well-typed module gets stuck.
 abbrev pub NeverStuck : Type 0
 NeverStuck =
     (m : Tree Name module_text)
@@ -51,8 +51,8 @@ NeverStuck =
     → (input : List ℤ) (c t : ℕ)
     → (run m input c t).ending ≢ Stuck
 
--- the execution of a statement is unchanged if a factor that has the constant's value in every
--- store replaces uses of a constant
+-- Replacing uses of a constant by a factor that has the constant's value in every store leaves the execution of a
+-- statement unchanged.
 abbrev pub InliningKeepsExecution : Type 0
 InliningKeepsExecution =
     (meaning : Meanings Name Place (List Mode)) (enter : Calls Name) (t : ℕ) (uses : Uses)

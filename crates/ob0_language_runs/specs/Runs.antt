@@ -1,6 +1,5 @@
--- Runs, in big steps: the meaning of statements, calls and whole modules. They depend on an
--- environment, a store, the remaining input, and bounds c on open calls and t on the iterations of
--- a loop.
+-- Big-step semantics of runs: the meaning of statements, calls and whole modules. A run depends on an environment, a
+-- store and the remaining input. It also depends on two bounds: `c` on open calls, and `t` on the iterations of a loop.
 -- Rule: docs/LANGUAGE.md, Runs 1 to 10.
 use Rattle.std.specs.Prelude.{ℕ, zero, suc, ◌+◌, ◌-◌, true, false, List, [], ◌∷◌, ◌++◌, map, length, ℤ, Some, None, Option, option_map, option_and_then}
 use Rattle.ob0_tree.specs.Tree.{Tree, assigns, begins, block, body, branches, calls, declares_variable, else_branch, else_part, elsif_branch, elsif_part, empty, end, expression, further_section, further_statement, item, items, maybe, module_text, more, none, one, procedure, repeat_loop, runs, sequence, statement, then_section, then_statement, variable, while_loop}
@@ -19,54 +18,53 @@ pub data Written : Type 0 where
   number_out : ℤ → Written
   line_out : Written
 
--- the state of a run; `input` is the input that isn't read yet
+-- the state of a run: its store, the input that isn't read yet, and the output so far
 pub record State : Type 0 where
   pub store : Store
   pub input : List ℤ
   pub output : List Written
 
--- a run that continues or has ended; in both cases the earlier output remains
+-- a run that continues or has ended; in both cases the earlier output is kept
 pub data Progress : Type 0 where
   running : State → Progress
   stopped : End → List Written → Progress
 
--- an argument: the place for a VAR parameter, fixed at the call, or a copy of the value for another
--- one
+-- an argument: for a VAR parameter the place, fixed at the call, otherwise a copy of the value
 pub data Argument : Type 0 where
   place_argument : Place → Argument
   value_argument : Value → Argument
 
--- uses the result of an evaluation in a state, or ends the run as the evaluation did
+-- continues with the result of an evaluation in a state, or ends the run as the evaluation did
 abbrev pub use_in : {A : Type 0} → State → Outcome A → (A → Progress) → Progress
 use_in s (gives a) next = next a
 use_in s (ends e) next = stopped e s.output
 
--- continues a run, unless it has ended
+-- continues a run unless it has ended
 abbrev pub continue_with : Progress → (State → Progress) → Progress
 continue_with (running s) next = next s
 continue_with (stopped e out) next = stopped e out
 
--- takes one of two ways, depending on a condition
+-- continues in one of two ways, according to a truth value; any other value is stuck
 abbrev pub choose : State → Value → (State → Progress) → (State → Progress) → Progress
 choose s (truth true) when_true when_false = when_true s
 choose s (truth false) when_true when_false = when_false s
 choose s _ when_true when_false = stopped Stuck s.output
 
--- a state with one more item of output
+-- returns the state with one more item of output
 abbrev pub append_output : State → Written → State
 append_output s i = record s { output = s.output ++ i ∷ [] }
 
--- stores a value at a place
+-- stores a value at a place; without such a place the run is stuck
 abbrev pub store_at : State → Place → Value → Progress
 store_at s p v =
     use_in s (or_stuck (write_place s.store p v)) (λ store. running record s { store = store })
 
--- `Read` takes the next number of the input, or ends the run with InputEnd if there is none
+-- reads the next number of the input into a place, or ends the run with InputEnd if there is none
 abbrev pub read_number : State → Place → List ℤ → Progress
 read_number s p [] = stopped InputEnd s.output
 read_number s p (n ∷ rest) = store_at record s { input = rest } p (number n)
 
--- the modes in which the arguments of a call are passed
+-- returns the modes in which the arguments of a call are passed; a name that isn't a procedure's is stuck
 abbrev pub modes_of : Option (Object Place (List Mode)) → Outcome (List Mode)
 modes_of (Some (a_procedure modes)) = gives modes
 modes_of (Some (a_standard reads)) = gives (by_place ∷ [])
@@ -74,7 +72,7 @@ modes_of (Some (a_standard writes)) = gives (by_value ∷ [])
 modes_of (Some (a_standard writes_line)) = gives []
 modes_of _ = ends Stuck
 
--- an argument: the place for a VAR parameter, or a copy of the value for another one (rule 6)
+-- evaluates an argument: the place for a VAR parameter, otherwise a copy of the value (rule 6)
 unfoldable pub evaluate_argument : {N P : Type 0}
     → Meanings N Place P
     → Store
@@ -90,7 +88,7 @@ evaluate_argument meaning store by_place e = do
   p ← designate meaning store d.0 d.1
   gives (place_argument p)
 
--- the arguments of a call, evaluated from left to right
+-- evaluates the arguments of a call from left to right
 unfoldable pub evaluate_arguments : {N P : Type 0}
     → Meanings N Place P
     → Store
@@ -105,7 +103,7 @@ evaluate_arguments meaning store (m ∷ ms) (e ∷ es) = do
   gives (a ∷ rest)
 evaluate_arguments meaning store _ _ = ends Stuck
 
--- performs a call with evaluated arguments; the standard procedures don't count for the bound c
+-- performs a call with evaluated arguments; the standard procedures don't count for the bound `c`
 abbrev pub perform : Option (Object Place (List Mode))
     → (List Argument → State → Progress)
     → List Argument
@@ -118,8 +116,8 @@ perform (Some (a_standard writes)) enter (value_argument (number n) ∷ []) s =
 perform (Some (a_standard writes_line)) enter [] s = running (append_output s line_out)
 perform _ enter args s = stopped Stuck s.output
 
--- WHILE evaluates its condition: FALSE ends the statement. If it is TRUE, one more iteration is
--- made, or the run ends with TurnBound if t is 0
+-- Executes WHILE with its condition. If the condition is FALSE, the statement ends. If it is TRUE, one more iteration
+-- is made, or the run ends with TurnBound if `t` is 0.
 abbrev pub turns : ℕ → (State → Outcome Value) → (State → Progress) → State → Progress
 turns zero condition statements s =
     use_in s (condition s) (λ v. choose s v (λ s'. stopped TurnBound s'.output) running)
@@ -127,13 +125,13 @@ turns (suc t) condition statements s =
     use_in s (condition s) (λ v. choose s v
     (λ s'. continue_with (statements s') (turns t condition statements)) running)
 
--- the effect of calling a name with arguments
+-- a function that performs a call of a name with arguments
 abbrev pub Calls : Type 0 → Type 0
 Calls N = N → List Argument → State → Progress
 
--- REPEAT makes an iteration and then evaluates its condition: TRUE ends the statement. If it is
--- FALSE, one more iteration is made, or the run ends with TurnBound if t is 0. So t bounds the
--- iterations after the first one
+-- Executes REPEAT: makes an iteration and then evaluates its condition. If the condition is TRUE, the statement ends.
+-- If it is FALSE, one more iteration is made, or the run ends with TurnBound if `t` is 0. So `t` bounds the iterations
+-- after the first one.
 abbrev pub turns_until : ℕ → (State → Outcome Value) → (State → Progress) → State → Progress
 turns_until zero condition turn s =
     continue_with (turn s) (λ s'. use_in s' (condition s')
@@ -142,12 +140,11 @@ turns_until (suc t) condition turn s =
     continue_with (turn s)
     (λ s'. use_in s' (condition s') (λ v. choose s' v running (turns_until t condition turn)))
 
--- executes a statement. An assignment finds its place, then evaluates its right side, then stores a
--- copy
+-- Executes a statement. An assignment finds its place, then evaluates its right side, then stores a copy.
 unfoldable mutual
   unfolding evaluate designate evaluate_arguments
 
-  -- one statement; `enter` performs calls of procedures, and t bounds the iterations of each loop
+  -- executes one statement; `enter` performs calls of procedures, and `t` bounds the iterations of each loop
   pub execute : {N : Type 0}
       → Meanings N Place (List Mode)
       → Calls N
@@ -173,7 +170,7 @@ unfoldable mutual
       turns_until (t - 1) (λ s'. evaluate meaning s'.store e)
       (execute_all meaning enter t statements) s
 
-  -- a sequence of statements
+  -- executes a sequence of statements
   pub execute_all : {N : Type 0}
       → Meanings N Place (List Mode)
       → Calls N
@@ -184,7 +181,7 @@ unfoldable mutual
   execute_all meaning enter t (runs a rest) s =
       continue_with (execute meaning enter t a s) (execute_further meaning enter t rest)
 
-  -- the statements after the first one
+  -- executes the statements after the first one
   pub execute_further : {N : Type 0}
       → Meanings N Place (List Mode)
       → Calls N
@@ -196,7 +193,7 @@ unfoldable mutual
   execute_further meaning enter t (more (then_statement a) rest) s =
       continue_with (execute meaning enter t a s) (execute_further meaning enter t rest)
 
-  -- the ELSIF parts, then `otherwise` if no condition among them is TRUE
+  -- executes the ELSIF parts, then `otherwise` if no condition among them is TRUE
   pub execute_elsifs : {N : Type 0}
       → Meanings N Place (List Mode)
       → Calls N
@@ -210,7 +207,7 @@ unfoldable mutual
       use_in s (evaluate meaning s.store e) (λ v. choose s v
       (execute_all meaning enter t statements) (execute_elsifs meaning enter t rest otherwise))
 
-  -- the statements of the ELSE part; without one, nothing happens
+  -- executes the statements of the ELSE part; without one, nothing happens
   pub execute_else : {N : Type 0}
       → Meanings N Place (List Mode)
       → Calls N
@@ -227,7 +224,7 @@ pub record ProcedureText (N : Type 0) : Type 0 where
   pub first_constructor : ℕ
   pub text : Tree N (item procedure)
 
--- the meanings of names in an activation
+-- the bindings of names in an activation
 abbrev pub Activation : Type 0 → Type 0
 Activation N = Environment N Place (ProcedureText N)
 
@@ -236,7 +233,7 @@ pub record Frame (N : Type 0) : Type 0 where
   pub env : Activation N
   pub store : Store
 
--- adds a new variable for each name at the end of the store, all with the value v
+-- adds a new variable for each name at the end of the store, all with the value `v`
 abbrev pub allocate : {N : Type 0} → List N → Value → Frame N → Frame N
 allocate [] v f = f
 allocate (x ∷ xs) v f =
@@ -246,7 +243,7 @@ allocate (x ∷ xs) v f =
       store = f.store ++ v ∷ [];
     }
 
--- adds new variables, which begin as 0 and FALSE (rule 1)
+-- adds new variables, which begin as 0 and FALSE (rule 1); None if a type has an error
 unfoldable pub declare_variables : {N : Type 0}
     → Naming N
     → ℕ
@@ -271,11 +268,11 @@ declare_procedures k (more p rest) env =
     declare_procedures (k + procedure_constructors p) rest
     ((procedure_name p, a_procedure record { first_constructor = k; text = p }) ∷ env)
 
--- a frame in which the procedures of a block are visible
+-- adds the procedures of a block to the environment of a frame
 abbrev pub with_procedures : {N : Type 0} → ℕ → Tree N (items procedure) → Frame N → Frame N
 with_procedures k ps f = record { env = declare_procedures k ps f.env; store = f.store }
 
--- declares constants and types, then variables, then procedures
+-- declares constants and types, then variables, then procedures; None if one of them has an error
 unfoldable pub declare_block : {N : Type 0}
     → Naming N
     → ℕ
@@ -289,8 +286,8 @@ declare_block naming k b f =
     record { env = env; store = f.store }))
     (declare_first naming f.env k b)
 
--- binds a parameter to its argument: a VAR parameter to the place, another one to a new variable
--- that has the value
+-- Binds a parameter to its argument: a VAR parameter to the place, any other to a new variable that has the value.
+-- Returns None if the argument has the wrong form.
 abbrev pub bind_parameter : {N : Type 0} → Mode → N → Argument → Frame N → Option (Frame N)
 bind_parameter by_place x (place_argument p) f =
     Some record { env = (x, a_variable p) ∷ f.env; store = f.store }
@@ -302,13 +299,13 @@ pub record Parameter (N : Type 0) : Type 0 where
   pub mode : Mode
   pub name : N
 
--- the formal parameters of a heading
+-- returns the formal parameters of a heading
 abbrev pub parameters : {N : Type 0} → Tree N (items further_section) → List (Parameter N)
 parameters end = []
 parameters (more (then_section f) fs) =
     map (λ x. record { mode = section_mode f; name = x }) (section_names f) ++ parameters fs
 
--- binds all parameters of a call to its arguments
+-- binds all parameters of a call to its arguments; None if their numbers or forms differ
 abbrev pub bind_parameters : {N : Type 0}
     → List (Parameter N)
     → List Argument
@@ -319,14 +316,13 @@ bind_parameters (p ∷ ps) (a ∷ args) f =
     option_and_then (bind_parameters ps args) (bind_parameter p.mode p.name a f)
 bind_parameters _ _ f = None
 
--- the modes of a procedure's parameters
+-- returns the modes of a procedure's parameters
 abbrev pub formal_modes : {N : Type 0} → Tree N (items further_section) → List Mode
 formal_modes end = []
 formal_modes (more (then_section f) fs) =
     map (λ x. section_mode f) (section_names f) ++ formal_modes fs
 
--- the meaning of a name for statements; of a procedure they need to know only how its arguments are
--- passed
+-- returns the meaning of a name for statements, which need to know only the modes of a procedure's parameters
 abbrev pub passing : {N : Type 0}
     → Option (Object Place (ProcedureText N))
     → Option (Object Place (List Mode))
@@ -337,7 +333,7 @@ passing (Some (a_variable p)) = Some (a_variable p)
 passing (Some (a_procedure code)) = Some (a_procedure (formal_modes (procedure_formals code.text)))
 passing (Some (a_standard p)) = Some (a_standard p)
 
--- the meanings of names for the statements of an activation
+-- returns the meanings of names for the statements of an activation
 abbrev pub statement_meanings : {N : Type 0}
     → Naming N
     → Activation N
@@ -369,8 +365,8 @@ abbrev pub in_frame : {N : Type 0}
 in_frame s None next = stopped Stuck s.output
 in_frame s (Some f) next = next f record s { store = f.store }
 
--- runs the body of the procedure at the head of an environment. It has its own variables, and sees
--- the bindings that were visible at its declaration, in the activation that declared it
+-- Runs the body of the procedure at the head of an environment. The call has its own variables. It sees the bindings
+-- that were visible at the procedure's declaration, in the activation that declared it.
 unfoldable pub activate : {N : Type 0}
     → Naming N
     → (Activation N → Calls N)
@@ -389,24 +385,24 @@ activate naming enter t ((x, a_procedure code) ∷ rest) args s =
     (λ f. execute_body naming f.env (enter f.env) t (block_statements (procedure_block code.text)))
 activate naming enter t _ args s = stopped Stuck s.output
 
--- a call, if c more calls may be open; the store keeps the call's variables after it returns
+-- Performs a call if `c` more calls may be open. The store keeps the call's variables after it returns.
 unfoldable pub call : {N : Type 0} → Naming N → ℕ → ℕ → Activation N → Calls N
 unfolding activate
 call naming zero t env x args s = stopped CallBound s.output
 call naming (suc c) t env x args s =
     activate naming (call naming c t) t (from_binding naming env x) args s
 
--- the output and the end of a run
+-- the result of a run: its output and its end
 pub record Run : Type 0 where
   pub output : List Written
   pub ending : End
 
--- the run after the module's body; it ends with Done if the end of the body was reached
+-- returns the result of a run after the module's body; it ends with Done if the end of the body was reached
 abbrev pub finished : Progress → Run
 finished (running s) = record { output = s.output; ending = Done }
 finished (stopped e out) = record { output = out; ending = e }
 
--- the run of a tree; `enter` performs calls
+-- returns the result of running a tree; `enter` performs calls
 unfoldable pub run_by : {N : Type 0}
     → Naming N
     → (Activation N → Calls N)
@@ -421,17 +417,17 @@ run_by naming enter t m input =
     (declare_block naming 0 (module_block m) record { env = outermost naming; store = [] })
     (λ f. execute_body naming f.env (enter f.env) t (block_statements (module_block m))))
 
--- the run of a tree over names of any kind
+-- returns the result of running a tree over names of any kind
 unfoldable pub run_over : {N : Type 0} → Naming N → Tree N module_text → List ℤ → ℕ → ℕ → Run
 unfolding run_by call
 run_over naming m input c t = run_by naming (call naming c t) t m input
 
--- the run of a module whose names are as they are written
+-- returns the result of running a module whose names are as they are written
 unfoldable pub run : Tree Name module_text → List ℤ → ℕ → ℕ → Run
 unfolding run_over
 run = run_over as_names
 
--- the run of a numbered tree
+-- returns the result of running a numbered tree
 unfoldable pub run_numbered : Tree Label module_text → List ℤ → ℕ → ℕ → Run
 unfolding run_over
 run_numbered = run_over as_labels

@@ -1,65 +1,65 @@
-//! The laws of runs and edits. Each function has an empty body: its contract is the law.
+//! The laws of runs and edits. Each function does nothing; its contract is the law.
 //!
-//! The run of the definitions keeps every variable. Code that drops a call's variables when the
-//! call returns is specified by `run_freeing` (`specs/Freed`), and `freeing_keeps_runs` states that
-//! both runs are equal. `specs/Fitting` defines when a value, a store, a place or an environment
-//! fits the types of a checked module; these facts hold throughout a run, so no run gets stuck.
+//! The run of the definitions keeps every variable. Code that drops a call's variables when the call returns is
+//! specified by `run_freeing` (`specs/Freed`). `freeing_keeps_runs` states that both runs are equal. `specs/Fitting`
+//! defines when a value, a store, a place or an environment fits the types of a checked module. These facts hold
+//! throughout a run, so no run gets stuck.
 
 ghost use Rattle.ob0_language_runs.specs.Laws.{RunsByOrdinal, RunsByShape, FreeKeepsRuns, FreeingKeepsRuns, NeverStuck, InliningKeepsExecution};
 ghost use Rattle.ob0_language_runs.specs.EditLaws.{FreeKeepsModules, InliningKeepsModules, LeavingOutKeepsModules, InliningEverywhereKeepsModules};
 
-/// States that a module has the same run as its numbered tree.
+/// Proves that a module has the same run as its numbered tree.
 pub fn runs_by_ordinal()
     ensures { RunsByOrdinal }
 {}
 
-/// States that two modules with the same numbered tree have the same runs.
+/// Proves that two modules with the same numbered tree have the same runs.
 pub fn runs_by_shape()
     ensures { RunsByShape }
 {}
 
-/// States that a module has the same runs after a declaration is renamed to a free name.
+/// Proves that a module has the same runs after a declaration is renamed to a free name.
 pub fn free_keeps_runs()
     ensures { FreeKeepsRuns }
 {}
 
-/// States that dropping a call's variables when the call returns changes no run.
+/// Proves that dropping a call's variables when the call returns changes no run.
 pub fn freeing_keeps_runs()
     ensures { FreeingKeepsRuns }
 {}
 
-/// States that no run of a well-typed module gets stuck.
+/// Proves that no run of a well-typed module gets stuck.
 pub fn never_stuck()
     ensures { NeverStuck }
 {}
 
-/// States that the execution of a statement is unchanged if a factor with the constant's value
-/// replaces uses of a constant.
+/// Proves that replacing uses of a constant by a factor with the constant's value leaves the execution of a statement
+/// unchanged.
 pub fn inlining_keeps_execution()
     ensures { InliningKeepsExecution }
 {}
 
-/// States that a well-typed module remains well-typed and has the same runs after a declaration is
-/// renamed to a free name.
+/// Proves that a well-typed module remains well-typed and has the same runs after a declaration is renamed to a free
+/// name.
 pub fn free_keeps_modules()
     ensures { FreeKeepsModules }
 {}
 
-/// States that a well-typed module remains well-typed and has the same runs if a constant's literal
-/// replaces uses at which it has the constant's value.
+/// Proves that a well-typed module remains well-typed and has the same runs if uses of a constant are replaced by its
+/// literal. The literal must have the constant's value at each of these uses.
 pub fn inlining_keeps_modules()
     ensures { InliningKeepsModules }
 {}
 
-/// States that a well-typed module remains well-typed and has the same runs without the declaration
-/// of a constant that no occurrence is bound to.
+/// Proves that a well-typed module remains well-typed and has the same runs without the declaration of a constant that
+/// no occurrence is bound to.
 pub fn leaving_out_keeps_modules()
     ensures { LeavingOutKeepsModules }
 {}
 
-/// States that a well-typed module remains well-typed and has the same runs if a constant's literal
-/// replaces all its uses and its declaration is removed. The literal must have the constant's value
-/// at each use.
+/// Proves that a well-typed module remains well-typed and has the same runs after a constant is inlined everywhere. Its
+/// literal then replaces all its uses, and its declaration is removed. The literal must have the constant's value at
+/// each use.
 pub fn inlining_everywhere_keeps_modules()
     ensures { InliningEverywhereKeepsModules }
 {}

@@ -1,4 +1,4 @@
-//! The run of a module (docs/LANGUAGE.md, Runs): its definition, and laws about it.
+//! Definitions and laws of the run of a module (docs/LANGUAGE.md, Runs).
 #![tactic(auto)]
 
 pub mod laws;

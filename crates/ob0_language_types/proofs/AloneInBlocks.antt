@@ -27,7 +27,7 @@ use Rattle.ob0_language_types.proofs.TypedElsewhere.{AreConstant, constant_value
 use Rattle.ob0_language_types.proofs.TypesByOrdinal.{typed_names}
 use Rattle.std.proofs.lemmas.Bool.{and_parts}
 
--- states that a name is bound to the constant d
+-- holds if a name is bound to the constant with ordinal `d`
 abbrev pub IsOf : ℕ → Scope Name → Name → Type 0
 IsOf d scope x = ordinal_of as_names scope x ≡ Some d
 

@@ -1,5 +1,5 @@
--- The newest binding in an environment that is joined from two, and in the environments of
--- parameters and of a procedure.
+-- The newest binding of an ordinal in two joined environments is its newest binding in the first one, or else in the
+-- second. This is applied to the environments of parameters and of a procedure.
 use Rattle.std.proofs.Common.{◌≡◌, ℕ, ◌+◌, Bool, true, false, cond, List, [], ◌∷◌, ◌++◌, take, Some, None, Option, refl, sym, ap, ◌∙◌, arith, length-append}
 use Rattle.std.proofs.Math.Seq.{take-append_seam}
 use Rattle.ob0_tree.specs.Tree.{Tree, block, declares_procedure, formals, maybe}
@@ -16,7 +16,7 @@ pub newest-if : (b : Bool) (x : Label) (o : Object Shape Signature) (env rest : 
 newest-if true x o env rest = refl
 newest-if false x o env rest = refl
 
--- the first value, or the second if the first is missing
+-- returns the first value, or the second if the first is missing
 abbrev pub or_else : {A : Type 0} → Option A → Option A → Option A
 or_else None b = b
 or_else (Some a) b = Some a
@@ -42,7 +42,7 @@ pub bind_typed-append : (ps : List (TypedParameter Label)) (first env : TypeEnvi
 bind_typed-append [] first env = refl
 bind_typed-append (p ∷ ps) first env = bind_typed-append ps ((p.name, a_variable p.formal.shape) ∷ first) env
 
--- the bindings of a procedure, by its heading and its block
+-- The bindings of a procedure are its block's bindings, followed by its heading's bindings.
 pub headed_bindings : (env : TypeEnvironment Label) (k : ℕ) (x closing : Label) (fs : Tree Label (maybe formals)) (b : Tree Label block) (qs : List (TypedParameter Label)) → typed_parameters as_labels env k (formal_sections fs) ≡ Some qs
     → procedure_bindings as_labels env k (declares_procedure x fs b closing) ≡ block_bindings as_labels (bind_typed qs (heading x qs env)) (k + formals_constructors (formal_sections fs)) b ++ bind_typed qs (heading x qs [])
 unfolding procedure_bindings

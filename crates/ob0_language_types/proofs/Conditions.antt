@@ -1,4 +1,4 @@
--- The facts that follow if a check succeeds: checks of names, types, variables and calls.
+-- If a check of names, types, variables or calls succeeds, the facts that it checks hold.
 use Rattle.std.proofs.Common.{◌≡◌, Bool, true, false, ◌&&◌, List, [], ◌∷◌, ◌==◌, Some, None, Option, sym, refl, ap, subst}
 use Rattle.std.proofs.lemmas.Bool.{eqb-true}
 use Rattle.ob0_tree.specs.Tree.{Tree, expression, items, selector}
@@ -20,7 +20,7 @@ both_true true true e = (refl, refl)
 both_true true false e = absurd (cc)
 both_true false b e = absurd (cc)
 
--- if the test of two names or types succeeds, they are equal
+-- If the test of two names or types succeeds, they are equal.
 pub same_name-true : (x y : Name) → same_name x y ≡ true → x ≡ y
 same_name-true [] [] e = refl
 same_name-true [] (b ∷ y) e = absurd (cc)
@@ -53,7 +53,7 @@ agree-true (Some s) (Some t) e = (s, refl, ap Some (sym (same_shape-true s t e))
 agree-true None b e = absurd (cc)
 agree-true (Some s) None e = absurd (cc)
 
--- a variable's type is the type that its selectors select from the type of its name
+-- A variable's type is the type that its selectors select from the type of its name.
 pub variable-typed : {N : Type 0} (checked : Typed N) (x : N) (path : Tree N (items selector)) (s : Shape) → variable_type checked (Some (x, path)) ≡ Some s → (t : Shape) × (checked.object_for x ≡ Some (a_variable t)) × (type_at checked t path ≡ Some s)
 unfolding variable_type
 variable-typed checked x path s h = go (checked.object_for x) h
@@ -66,7 +66,7 @@ variable-typed checked x path s h = go (checked.object_for x) h
     go (Some (a_procedure t)) e = absurd (cc)
     go (Some (a_standard t)) e = absurd (cc)
 
--- a well-typed call calls a procedure
+-- A well-typed call calls a procedure.
 pub call-typed : {N : Type 0} (checked : Typed N) (o : Option Signature) (es : List (Tree N expression)) → call_fits checked o es ≡ true → (signature : Signature) × (o ≡ Some signature) × (arguments_fit checked signature es ≡ true)
 unfolding call_fits
 call-typed checked None es h = absurd (cc)

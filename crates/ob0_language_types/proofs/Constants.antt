@@ -13,7 +13,7 @@ then-gives (ends e) next b h = absurd (cc)
 pub then-goes : {A B : Type 0} (o : Outcome A) (next : A → Outcome B) (a : A) (b : B) → o ≡ gives a → next a ≡ gives b → o >>= next ≡ gives b
 then-goes o next a b e h = ap (λ o. o >>= next) e ∙ h
 
--- states that the meanings of a run include the checker's constants
+-- holds if the meanings of a run include the checker's constants, and fields are spelled alike
 abbrev pub HasConstants : {N V P Q : Type 0} → Meanings N V P → Meanings N Place Q → Type 0
 HasConstants {N} checked active =
     ((x : N) → checked.written x ≡ active.written x) × ((x : N) (w : Value) → constant_of (checked.object_for x) ≡ Some w → constant_of (active.object_for x) ≡ Some w)

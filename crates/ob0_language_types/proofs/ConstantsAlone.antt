@@ -1,5 +1,4 @@
--- In a well-typed module each use of a constant is a whole factor. The proof uses the numbered
--- tree.
+-- In a well-typed module each use of a constant is a whole factor. The proof is about the numbered tree.
 use Rattle.std.proofs.Common.{All, List, None, [], ap, length, map, subst, suc, sym, ℕ, ◌+◌, ◌∙◌, ◌∷◌, ◌≡◌, ◌≢◌}
 use Rattle.ob0_tree.specs.Tree.{Sort, Tree, block, constant, constants, declares, declares_constant, declares_constants, declares_procedure, declares_type, declares_types, declares_variable, declares_variables, end, formals, further_section, has_body, is_module, item, items, maybe, module_text, more, no_formals, none, occurrences, one, procedure, section, some_formals, then_section, type_name, type_names, value_section, variable, variable_section, variables, written_type}
 use Rattle.ob0_language_names.specs.Elsewhere.{names_elsewhere}

@@ -1,8 +1,7 @@
--- The value of a constant, found by its ordinal, is the value in the binding of its declaration in
--- the numbered tree. `value_of_constant` walks over names and counts ordinals, `declared_object`
--- walks over the numbered tree. Each lemma covers a whole block or list of procedures: its bindings
--- have only ordinals of one range (`Binds`). From the start of the range, the value of each ordinal
--- is the value that it is bound to (`AreValuesBetween`).
+-- The value of a constant, found by its ordinal, is the value in the binding of its declaration in the numbered tree.
+-- `value_of_constant` visits names and counts ordinals; `declared_object` visits the numbered tree. Each lemma is about
+-- a whole block or list of procedures, whose bindings have only ordinals of one range (`Binds`). From the start of the
+-- range on, the value of each ordinal is the value that it is bound to (`AreValuesBetween`).
 use Rattle.std.proofs.Common.{◌≡◌, ℕ, suc, ◌+◌, ◌<◌, ◌≤◌, ◌==◌, Bool, true, false, cond, if◌then◌else◌, nat_lt, ◌&&◌, List, [], ◌∷◌, ◌++◌, map, Some, None, Option, option_map, option_and_then, refl, sym, ap, ◌∙◌, subst, subst₂, append_assoc, arith, le_refl, le_of_lt, lit<, eq-eqb, eqb-true, true≢false}
 use Rattle.std.proofs.lemmas.Bool.{and_parts, le-ltb, lt-ltb, ltb-false, ltb-true, ne_eqb}
 use Rattle.std.proofs.lemmas.List.{append-nil}
@@ -33,7 +32,7 @@ use Rattle.ob0_language_types.proofs.TypesByOrdinal.{TypeNoted, TypedBelow, Type
 abbrev pub has_value : TypeEnvironment Label → ℕ → Option Value
 has_value env d = constant_of (object_bound env d)
 
--- states that all bindings have ordinals from k to n - 1
+-- holds if all bindings have ordinals from `k` to `n - 1`
 abbrev pub Binds : ℕ → ℕ → TypeEnvironment Label → Type 0
 Binds k n [] = Unit {0}
 Binds k n (b ∷ env) = ((i : ℕ) × (b.0 ≡ declared i) × (k ≤ i) × (i < n)) × Binds k n env
@@ -63,7 +62,7 @@ bound-first k n d xs ys b h =
     ∙ ap (or_else (object_bound xs d)) (ap (λ e. object_bound e d) (sym (append-nil ys)) ∙ bound-elsewhere k n d ys [] b h)
     ∙ or-none (object_bound xs d)
 
--- states that no binding is a constant's
+-- holds if no binding is a constant's
 abbrev pub AllPlain : TypeEnvironment Label → Type 0
 AllPlain [] = Unit {0}
 AllPlain (b ∷ env) = (constant_of (Some b.1) ≡ None) × AllPlain env
@@ -78,7 +77,7 @@ plain-has_value ((x, o) ∷ env) d a =
     ap constant_of (newest-if (same_label (declared d) x) x o env (from_binding as_labels env (declared d)))
     ∙ (elim (same_label (declared d) x) as (λ t. constant_of (cond t (Some o) (object_bound env d)) ≡ None) [ true ↦ a.0 | false ↦ plain-has_value env d a.1 ])
 
--- states that both environments give each name the same constant, or none
+-- holds if both environments give each name the same constant, or none
 abbrev pub Knows : Known → TypeNoted Name → Type 0
 Knows known noted = (x : Name) → constant_of (newest (from_binding as_names known x)) ≡ constant_of (newest (from_binding as_names (typed_by_name noted) x))
 
@@ -93,7 +92,7 @@ known-has_value known noted k knows below e =
     constant_value-map (typed_label as_names noted) (as_label as_names None) (meanings as_labels (typed_by_ordinal noted)) (meanings as_names known) e
     (λ x. ap constant_of (typed_meanings-agree as_names k noted below x) ∙ sym (knows x)) (λ x. refl)
 
--- constants
+-- the bindings that constants make, with facts about them and about the environment after them
 pub record Constants (known : Known) (noted : TypeNoted Name) (k : ℕ) (cs : Tree Name (items constant)) (env : TypeEnvironment Label) : Type 0 where
   pub bound : TypeEnvironment Label
   pub front : env ≡ bound ++ typed_by_ordinal noted
@@ -154,7 +153,7 @@ constants-bound known noted k knows below (more (declares_constant x e) cs) env 
       has_value_is = λ d l m. ap (option_and_then (λ w. if k == d then Some w else value_among ((x, a_constant w) ∷ known) d (suc k) cs)) value ∙ chosen d l m (k == d) refl;
     }
 
--- declarations of names that aren't constants
+-- the bindings that declarations of names other than constants make, with facts about them
 pub record Plain (noted : TypeNoted Name) (k : ℕ) (names : List Name) (after : TypeNoted Name) : Type 0 where
   pub bound : TypeEnvironment Label
   pub front : typed_by_ordinal after ≡ bound ++ typed_by_ordinal noted
@@ -208,7 +207,7 @@ plain-parameters noted k (p ∷ ps) below =
     let own : TypeNoted Name = record { name = p.name; ordinal = k; object = o } ∷ noted in
     plain-then noted own (noted_parameters (suc k) ps own) k (p.name ∷ []) (typed_names ps) (plain-one noted k p.name o refl below) (plain-parameters own (suc k) ps (le_refl (suc k), below))
 
--- types and variables
+-- holds if declarations of types and variables make bindings of these names that aren't constants
 abbrev pub LeavesPlain : TypeNoted Name → ℕ → List Name → TypeEnvironment Label → Type 0
 LeavesPlain noted k names env = (after : TypeNoted Name) × (env ≡ typed_by_ordinal after) × Plain noted k names after
 
@@ -241,7 +240,7 @@ variables-bound noted j k below (more (declares_variable ns u) gs) env h =
     ((λ i. declare_typed as_labels (j + constructors t) (relabel_variables as_names (as_label as_names) (a.within.0 i) (after_names k xs) gs) (bound i)) ∙ found.2) in
     (r.0, r.1, plain-then noted mid r.0 k xs (variable_names gs) a r.2)
 
--- the bindings of a heading
+-- The bindings of a heading have the ordinals of the procedure and its parameters.
 listed-binds : (k i : ℕ) (ps : List (TypedParameter Name)) (env : TypeEnvironment Label) → k ≤ i → Binds k i env → Binds k (after_names i (typed_names ps)) (bind_typed (label_typed i ps) env)
 listed-binds k i [] env l b = b
 listed-binds k i (p ∷ ps) env l b =
@@ -262,12 +261,12 @@ held : {A : Type 0} (o : Option A) (test : A → Bool) → some_and o test ≡ t
 held None test h = absurd (true≢false (sym h))
 held (Some a) test h = (a, refl, h)
 
--- states that bindings with ordinals from k to n - 1 hold the values of the constants
+-- holds if bindings with ordinals from `k` to `n - 1` have the values of the constants
 pub record AreValuesBetween (k n : ℕ) (value : ℕ → Option Value) (bindings : TypeEnvironment Label) : Type 0 where
   pub binds : Binds k n bindings
   pub has_value_is : (d : ℕ) → k ≤ d → value d ≡ has_value bindings d
 
--- a choice by whether an ordinal is below a bound
+-- If one value is right below a bound and another value otherwise, the choice between them is right.
 below-or : (d n : ℕ) (x y : Option Value) (z : Option Value) → (d < n → x ≡ z) → (n ≤ d → y ≡ z) → (if nat_lt d n then x else y) ≡ z
 below-or d n x y z h g = by (nat_lt d n) refl
   where
@@ -275,7 +274,7 @@ below-or d n x y z h g = by (nat_lt d n) refl
     by true e = h (ltb-true d n e)
     by false e = g (ltb-false d n e)
 
--- a block or procedure that is well-typed was declared part by part
+-- A well-typed block or procedure was declared part by part.
 firsts : (env : TypeEnvironment Label) (j : ℕ) (b : Tree Label block) (after : TypeEnvironment Label) → declare_first as_labels env j b ≡ Some after
     → (mid : TypeEnvironment Label) × (declare_constants as_labels env (block_constants b) ≡ Some mid) × (declare_types as_labels mid j (block_types b) ≡ Some after)
 unfolding declare_first
@@ -320,7 +319,7 @@ procedures-listed env j statements x fs b closing rest f =
     ap (λ o. for_some o (λ later. procedures_bindings as_labels later (j + procedure_constructors p) rest ++ procedure_bindings as_labels env j p)) given
     ∙ ap (λ e. procedures_bindings as_labels (heading x f.listed env) (j + procedure_constructors p) rest ++ e) (headed_bindings env j x closing fs b f.listed f.typed)
 
--- the environment after a block's constants, types and variables
+-- the environment after a block's constants, types and variables, with facts about it
 pub record Opened (known : Known) (noted : TypeNoted Name) (k : ℕ) (b : Tree Name block) (inner : TypeEnvironment Label) : Type 0 where
   pub mid : TypeEnvironment Label
   pub constants : Constants known noted k (block_constants b) mid
@@ -389,7 +388,7 @@ opened-binds known noted k b inner o =
     let kp : ℕ = first_procedure k b in
     binds-append k kp o.others.bound o.constants.bound (binds-wider kt kp k kp o.others.bound (types-above k b) (le_refl kp) (others-binds known noted k b inner o)) (binds-wider k kt k kp o.constants.bound (le_refl k) (procedures-above k b) o.constants.binds)
 
--- the bindings of a block, with the bindings of its procedures before them
+-- The bindings of a block, after its procedures' bindings, have the values of the block's constants.
 block-values : (known : Known) (noted : TypeNoted Name) (k : ℕ) (b : Tree Name block) (inner P : TypeEnvironment Label) (o : Opened known noted k b inner)
     → AreValuesBetween (first_procedure k b) (after_block k b) (λ d. value_in_procedures (bind_names (named_types (block_types b) ++ variable_names (block_variables b)) no_constant o.constants.known_after) d (first_procedure k b) (block_procedures b)) P
     → AreValuesBetween k (after_block k b) (λ d. value_in_block known d k b) (P ++ (o.others.bound ++ o.constants.bound))
@@ -420,7 +419,7 @@ block-values known noted k (has_body (declares cs ts vs ps) statements) inner P 
           (λ z. ap (option_and_then (λ inner. value_in_procedures (bind_names names no_constant inner) d kp ps)) o.constants.known_is ∙ p.has_value_is d z ∙ sym (ap constant_of (bound-first k kp d P own own_binds (λ a y. omega (arith, z, y))))));
     }
 
--- the environment with a procedure's name and parameters
+-- the environments with a procedure's name, and with its parameters, with facts about them
 pub record Entered (known : Known) (noted : TypeNoted Name) (k : ℕ) (x : Name) (xs : List Name) (qs : List (TypedParameter Label)) : Type 0 where
   pub own : TypeNoted Name
   pub headed : typed_by_ordinal own ≡ heading (declared k) qs (typed_by_ordinal noted)
@@ -468,7 +467,7 @@ procedure-entered known noted j k knows below x fs qs h =
     (parameters_typed as_names j (suc k) noted (TypedBelow-weaken k (suc k) noted (le_of_lt (le_refl (suc k))) below) (formal_sections fs)) qs (ap (typed_parameters as_labels env j) (sym (formals-section as_names (as_label as_names) (typed_scope noted) (suc k) fs)) ∙ h) in
     subst₂ (λ ys zs. Entered known noted k x ys zs) listed.1 listed.2 (entered known noted k knows below x listed.0)
 
--- the bindings of a procedure, with the bindings of later procedures before them
+-- The bindings of a procedure, after the later procedures' bindings, have the values of the constants.
 procedure-values : (known : Known) (k : ℕ) (x closing : Name) (fs : Tree Name (maybe formals)) (b : Tree Name block) (rest : Tree Name (items procedure)) (B H R : TypeEnvironment Label)
     → AreValuesBetween (after_names (suc k) (formal_names (formal_sections fs))) (after_procedure (suc k) (declares_procedure x fs b closing))
     (λ d. value_in_block (bind_names (formal_names (formal_sections fs)) no_constant ((x, no_constant) ∷ known)) d (after_names (suc k) (formal_names (formal_sections fs))) b) B
@@ -548,7 +547,7 @@ mutual
       (procedure-values known k x closing fs b rest (block_bindings as_labels (typed_by_ordinal e.inner) jb (relabel_block as_names (as_label as_names) (typed_scope e.inner) m b)) (bind_typed f.listed (heading (declared k) f.listed []))
       (procedures_bindings as_labels (typed_by_ordinal e.own) jr (relabel_procedures as_names (as_label as_names) (typed_scope e.own) q rest)) inside_block e.binds e.plain later)
 
--- the predeclared names
+-- The predeclared environments of both definitions give each name the same constant, or none.
 same_known : (o : Object Shape Signature) → constant_of (Some (known_object o)) ≡ constant_of (Some o)
 same_known (a_type s) = refl
 same_known (a_constant v) = refl
@@ -577,7 +576,7 @@ module-evaluates (is_module x b closing) h d l =
     let w = block-evaluates predeclared_known (typed_outermost as_names) 0 7 (knows-all (typed_outermost as_names)) predeclared-below b h in
     w.has_value_is d l ∙ sym (ap constant_of (bound-first 0 7 d (block_bindings as_labels (outermost as_labels) 0 (relabel_block as_names (as_label as_names) (typed_scope (typed_outermost as_names)) 7 b)) (outermost as_labels) outermost-binds (λ a z. omega (arith, l, z))))
 
--- in a well-typed module a constant's value is the value in the binding of its declaration
+-- In a well-typed module a constant's value is the value in the binding of its declaration.
 pub predeclared-none : (m : Tree Name module_text) (d : ℕ) → d < 7 → None ≡ value_of_constant m d
 unfolding value_of_constant
 predeclared-none m d l = sym (ap (λ t. if t then None else value_in_block predeclared_known d 7 (module_block m)) (lt-ltb d 7 l))

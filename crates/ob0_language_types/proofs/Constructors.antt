@@ -1,4 +1,4 @@
--- A relabelled tree has the same number of ARRAY and RECORD.
+-- A relabelled tree has the same number of words ARRAY and RECORD.
 use Rattle.std.proofs.Common.{◌≡◌, ℕ, suc, ◌+◌, ◌∷◌, None, refl, ap, ◌∙◌}
 use Rattle.ob0_tree.specs.Tree.{Tree, block, declares, declares_procedure, declares_type, declares_variable, end, further_section, has_body, item, items, more, procedure, then_section, type_name, variable}
 use Rattle.ob0_language_names.specs.Names.{Naming}

@@ -1,8 +1,7 @@
--- In the environments in which statements are checked, names are bound to the objects of their
--- declarations. `Has k n all xs` states that `all` and `xs` bind the ordinals from k to n - 1 in
--- the same way. `Includes all env` states that `all` contains the bindings of `env`. Let Q hold of
--- each noted environment that the bindings of a module include. Then Q holds wherever procedures
--- and statements of the module are checked (`module-has`).
+-- In the environments in which statements are checked, names are bound to the objects of their declarations. `Has k n
+-- all xs` states that `all` and `xs` bind the ordinals from k to n - 1 in the same way. `Includes all env` states that
+-- `all` contains the bindings of `env`. Suppose that Q holds for each environment whose bindings are included in the
+-- module's bindings. Then Q holds wherever procedures and statements of the module are checked (`module-has`).
 use Rattle.std.proofs.Common.{◌≡◌, ℕ, suc, ◌+◌, ◌<◌, ◌≤◌, Bool, true, false, nat_lt, List, [], ◌∷◌, ◌++◌, All, Some, None, refl, sym, ap, ◌∙◌, subst, arith, le_refl, le_of_lt, Option}
 use Rattle.std.proofs.lemmas.Bool.{ltb-false, ltb-true}
 use Rattle.std.proofs.lemmas.List.{append-nil}
@@ -27,11 +26,11 @@ use Rattle.ob0_language_types.proofs.Literals.{some_inverse}
 use Rattle.ob0_language_types.proofs.Proved.{fits_by_ordinal-holds}
 use Rattle.ob0_language_types.proofs.TypesByOrdinal.{TypeNoted, TypedBelow, TypedBelow-weaken, typed_by_ordinal, typed_outermost, typed_scope}
 
--- states that each binding in an environment is also found in a list of bindings
+-- holds if each binding in an environment is also found in a list of bindings
 abbrev pub Includes : TypeEnvironment Label → TypeEnvironment Label → Type 0
 Includes all env = (d : ℕ) (o : Object Shape Signature) → object_bound env d ≡ Some o → object_bound all d ≡ Some o
 
--- states that two lists of bindings bind the ordinals from k to n - 1 in the same way
+-- holds if two lists of bindings bind the ordinals from `k` to `n - 1` in the same way
 abbrev Has : ℕ → ℕ → TypeEnvironment Label → TypeEnvironment Label → Type 0
 Has k n all xs = (d : ℕ) → k ≤ d → d < n → object_bound all d ≡ object_bound xs d
 
@@ -54,7 +53,7 @@ holds-grown all env own k n le st envb ownb has = λ d o h. by d o h (nat_lt d k
     by d o h false above false e =
         absurd (nothing o (sym (bound-first 0 k d own env envb (λ a z. omega (arith, z, ltb-false d k above)) ∙ bound-none k n d own ownb (λ a z. omega (arith, z, ltb-false d n e))) ∙ h))
 
--- a property Q of each noted environment that the list `all` includes
+-- Assumes a property `Q` for each environment whose bindings are included in the list `all`.
 module _ (all : TypeEnvironment Label) (Q : TypeEnvironment Label → Type 0) (so : (n : ℕ) (noted : TypeNoted Name) → TypedBelow n noted → Includes all (typed_by_ordinal noted) → Q (typed_by_ordinal noted)) where
   mutual
     block-has : (known : Known) (noted : TypeNoted Name) (j k : ℕ) → Knows known noted → TypedBelow k noted → Includes all (typed_by_ordinal noted) → (b : Tree Name block)
@@ -169,7 +168,7 @@ module-has Q (is_module x b closing) so well =
     first d o e true t binds = bound-elsewhere 7 (after_block 7 b) d (block_bindings as_labels (outermost as_labels) 0 (relabel_block as_names (as_label as_names) (typed_scope (typed_outermost as_names)) 7 b)) (outermost as_labels) binds (λ a z. omega (arith, a, ltb-true d 7 t)) ∙ e
     first d o e false t binds = absurd (nothing o (sym (bound-none 0 7 d (outermost as_labels) outermost-binds (λ a z. omega (arith, z, ltb-false d 7 t))) ∙ e))
 
--- Q holds in each environment in which a body is checked
+-- If `Q` holds wherever a block is checked, it holds for the environment of each body.
 
 for_some-all : {A B : Type 0} (P : B → Type 0) (o : Option A) (list : A → List B) → ((a : A) → o ≡ Some a → All P (list a)) → All P (for_some o list)
 for_some-all P None list h = All-nil P

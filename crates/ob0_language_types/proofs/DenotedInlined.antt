@@ -1,5 +1,5 @@
--- If a constant's literal replaces its uses, the values of constant expressions and the types that
--- texts denote are unchanged.
+-- Replacing uses of a constant by its literal leaves the values of constant expressions and the types that texts denote
+-- unchanged.
 use Rattle.std.proofs.Common.{List, Some, [], ap, length, map, option_and_then, option_map, refl, suc, ℕ, ◌+◌, ◌∙◌, ◌∷◌, ◌≡◌}
 use Rattle.ob0_tree.specs.Tree.{Tree, array_type, end, expression, factor, fields, further_fields, items, more, named_type, no_fields, occurrences, record_type, some_fields, then_fields, written_type}
 use Rattle.ob0_language_names.specs.Inlining.{Uses, inline_in}
@@ -16,7 +16,7 @@ pub uses-map : (uses : Uses) (P Q : Name → Type 0) → ((x : Name) → P x →
 uses-map uses P Q f k [] u = tt
 uses-map uses P Q f k (x ∷ xs) u = (λ e. f x (u.0 e), uses-map uses P Q f (suc k) xs u.1)
 
--- the facts about a literal in constant expressions: its type and its value are the constant's
+-- holds if a literal has the constant's type and value in constant expressions
 pub record ConstantWritten {V P : Type 0} (meaning : Meanings Name V P) (v : Tree Name factor) (w : Value) : Type 0 where
   pub typed : type_of_factor {P = Unit {0}} (constants_only meaning) v ≡ value_type w
   pub has_value : evaluate_factor {P = Unit {0}} (constants_only meaning) [] v ≡ gives w

@@ -1,5 +1,4 @@
--- After an edit, a block's constants and types have the bindings that they had before, as the edit
--- leaves them.
+-- After an edit, a block's constants and types have the same bindings as before, except a removed one.
 use Rattle.std.proofs.Common.{Bool, None, Option, Some, ap, arith, eq-eqb, eqb-true, false, if◌then◌else◌, le_refl, length, ne_eqb, option_and_then, refl, subst, subst₂, suc, sym, true, ℕ, ◌+◌, ◌<◌, ◌==◌, ◌∙◌, ◌∷◌, ◌≡◌, ◌≤◌}
 use Rattle.ob0_tree.specs.Tree.{Tree, constant, declares_constant, declares_type, end, expression, items, more, occurrences, type_name}
 use Rattle.ob0_language_names.specs.Names.{Name, as_names}
@@ -22,7 +21,7 @@ use Rattle.ob0_language_types.proofs.Literals.{some_inverse}
 use Rattle.ob0_language_types.proofs.Marks.{IsRight, Mark, Marks, OfProcedure, Sound, Sound-weaken, is_left, knowns, not-left, read, read_edited, scope_marked}
 use Rattle.std.proofs.lemmas.Bool.{and_parts}
 
--- two continuations agree after one known value if they agree for that value
+-- Two continuations agree after one known value if they agree for that value.
 pub agree-known : {V X Y Z : Type 0} (p : X → Y) (q : X → Z) (P : X → Type 0) (g : V → Option Y) (h : V → Option Z) (o o' : Option V)
     → o' ≡ o → ((v : V) → o ≡ Some v → Agree p q P (g v) (h v)) → Agree p q P (option_and_then g o) (option_and_then h o')
 agree-known {V} p q P g h o o' e each =
@@ -32,11 +31,11 @@ agree-known {V} p q P g h o o' e each =
     go None each = (None, refl, refl, tt)
     go (Some v) each = each v refl
 
--- states that the ordinals from k to n - 1 don't include the constant
+-- holds if the constant's ordinal isn't from `k` to `n - 1`
 abbrev pub Outside : Edit → ℕ → ℕ → Type 0
 Outside edit k n = k ≤ edit.constant → edit.constant < n → ⊥
 
--- states that, if the constant's ordinal is from k to n - 1, the value is w
+-- holds if the value is `w`, or the constant's ordinal isn't from `k` to `n - 1`
 abbrev pub HasValueBetween : Edit → Value → ℕ → ℕ → Option Value → Type 0
 HasValueBetween edit w k n o = k ≤ edit.constant → edit.constant < n → o ≡ Some w
 
@@ -47,14 +46,14 @@ outside-right edit w x k o seven outside = record {
   no_is = λ e. absurd (omega (arith, e, seven));
 }
 
--- the facts about the marks after declarations
+-- holds if the marks after declarations have this scope and these constants, and are sound
 pub record Left {V P : Type 0} (edit : Edit) (w : Value) (X : Marks V P → Name → ℕ → P → Type 0) (n : ℕ) (scope : Scope Name) (known : Option Known) (marks : Marks V P) : Type 0 where
   pub scoped : scope_marked marks ≡ scope
   pub sound : Sound edit w X n marks
   pub value : known ≡ Some (knowns marks)
 
--- constants, the first of which may be the edited one; `next` proves the same about the constants
--- after it
+-- A list of constants, the first of which may be the edited one, is bound as before. `next` proves the same about the
+-- later constants.
 constants-tail : {V P Q : Type 0} (edit : Edit) (w : Value) (X : Marks V P → Name → ℕ → P → Type 0) (p q : ℕ → P → Q) (k : ℕ) (marks : Marks V P) → Sound edit w X k marks → 7 ≤ k → (x : Name) (e : Tree Name expression) (cs cs' : Tree Name (items constant))
     → HasValueBetween edit w k (after_names (suc k) (constant_names cs)) (value_among (knowns marks) edit.constant k (more (declares_constant x e) cs))
     → ((b : Mark V P) → IsRight edit w b → (b.ordinal ≡ k) → OfProcedure (X marks b.name b.ordinal) b.object → b.name ≡ x → HasValueBetween edit w (suc k) (after_names (suc k) (constant_names cs)) (value_among (knowns (b ∷ marks)) edit.constant (suc k) cs)

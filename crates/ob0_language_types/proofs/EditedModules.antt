@@ -1,5 +1,4 @@
--- Edited modules: the facts that the maker of an edit has suffice for each part of a module, so the
--- edited module is well-typed.
+-- An edited module is well-typed, because the facts that are known about the edit suffice for each part of the module.
 use Rattle.std.proofs.Common.{IsTrue, List, None, Option, Some, [], add-zero, ap, arith, codes, false, if◌then◌else◌, le_refl, lit<, ltb-false, nat_lt, option_and_then, refl, slice_get, subst, suc, sym, true, true≢false, zero-add, ℕ, ◌+◌, ◌<◌, ◌∙◌, ◌∷◌, ◌≡◌, ◌≢◌, ◌≤◌}
 use Rattle.ob0_tree.specs.Tree.{Tree, factor, is_module, module_text, occurrences}
 use Rattle.ob0_language_names.specs.Inlining.{Uses, inline_in}
@@ -22,7 +21,7 @@ use Rattle.ob0_language_names.specs.Scopes.{Scope, as_label, label_of, ordinal_o
 use Rattle.ob0_language_names.proofs.EditedOnce.{declared_once-edited}
 use Rattle.ob0_language_types.specs.ConstantValues.{predeclared_known, value_in_block, value_of_constant}
 
--- the marks of the outermost block
+-- the marks of the outermost block, which has the predeclared names
 abbrev pub marked_outermost : {V P : Type 0} → Marks V P
 marked_outermost =
     record { name = predeclared_name 6; ordinal = 6; object = a_standard writes_line } ∷ record { name = predeclared_name 5; ordinal = 5; object = a_standard writes } ∷ record { name = predeclared_name 4; ordinal = 4; object = a_standard reads }
@@ -65,7 +64,7 @@ outermost-sound edit w X seven = (
   ),
 )
 
--- an edit doesn't change marks with smaller ordinals than its constant
+-- An edit doesn't change marks with smaller ordinals than its constant.
 pub read_edited-below : {V P Q : Type 0} (edit : Edit) (w : Value) (X : Marks V P → Name → ℕ → P → Type 0) (q : ℕ → P → Q) (n : ℕ) (marks : Marks V P) → Sound edit w X n marks → n ≤ edit.constant → read_edited edit q marks ≡ read q marks
 read_edited-below edit w X q n [] s h = refl
 read_edited-below edit w X q n (b ∷ marks) s h =
@@ -73,7 +72,7 @@ read_edited-below edit w X q n (b ∷ marks) s h =
     (not-left edit b.ordinal (λ g e. let d : b.ordinal ≡ edit.constant = some_inverse e in omega (arith, d, s.0, h)))
     ∙ ap (λ env. (b.name, object_as (q b.ordinal) b.object) ∷ env) (read_edited-below edit w X q b.ordinal marks s.3 (omega (arith, s.0, h)))
 
--- the facts that make an edited module well-typed
+-- the facts that suffice for an edited module to be well-typed
 pub record IsFitted (edit : Edit) (w : Value) (m : Tree Name module_text) : Type 0 where
   pub literal : Literal edit w
   pub here : EachBlock (Here edit w) 0 (predeclared_scope as_names) 7 (module_block m)
@@ -90,7 +89,7 @@ pub well_typed-edited : (edit : Edit) (w : Value) (m : Tree Name module_text) �
 unfolding WellTyped
 well_typed-edited edit w m h well = (declared_once-edited edit m well.0, subst (λ v. IsTrue v) (sym (fits-edited edit w m h)) well.1)
 
--- a property of each label from a property of each number
+-- If `R` holds for the label at each index, it holds for all labels of a list.
 
 pub all-at : (R : ℕ → Label → Type 0) (j : ℕ) (ls : List Label) → ((i : ℕ) (l : Label) → slice_get ls i ≡ Some l → R (j + i) l) → AllAt R j ls
 all-at R j [] h = tt
@@ -109,7 +108,7 @@ seven-or-less m d w h =
     (elim (nat_lt d 7) as (λ v. nat_lt d 7 ≡ v → (if v then None else value_in_block predeclared_known d 7 (module_block m)) ≡ Some w → (7 ≤ d) × (value_in_block predeclared_known d 7 (module_block m) ≡ Some w))
     [ true ↦ λ e h. absurd (cc) | false ↦ λ e h. (ltb-false d 7 e, h) ]) refl h
 
--- literals replace uses
+-- holds if a use is bound to the constant, by its label
 
 abbrev pub IsBound : Uses → ℕ → ℕ → Label → Type 0
 IsBound uses d j l = uses j ≡ true → label_ordinal l ≡ Some d
@@ -118,7 +117,7 @@ abbrev pub truth_name : Value → Name
 truth_name (truth true) = codes "TRUE"
 truth_name _ = codes "FALSE"
 
--- states that a use whose literal is TRUE or FALSE has the predeclared constant's label
+-- holds if a use whose literal is TRUE or FALSE has the predeclared constant's label
 abbrev pub IsShownAs : Uses → Value → ℕ → Label → Type 0
 IsShownAs uses (truth true) j l = uses j ≡ true → label_ordinal l ≡ Some 2
 IsShownAs uses (truth false) j l = uses j ≡ true → label_ordinal l ≡ Some 3
@@ -176,7 +175,7 @@ written-fitted (is_module x b closing) d w v uses c u =
 pub inlining_keeps_well_typed-holds : InliningKeepsWellTyped
 inlining_keeps_well_typed-holds m d w v uses c u well = subst WellTyped (written-module uses v d m) (well_typed-edited (writing uses v d) w m (written-fitted m d w v uses c u) well)
 
--- the declaration is removed
+-- holds if the label isn't the removed declaration's label
 
 abbrev pub IsOther : ℕ → ℕ → Label → Type 0
 IsOther d j l = label_ordinal l ≡ Some d → ⊥

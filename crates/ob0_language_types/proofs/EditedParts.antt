@@ -1,5 +1,5 @@
--- The parts of an edited block: the bindings of its names, the value of its constant, and its
--- number of ARRAY and RECORD.
+-- The parts of an edited block: the bindings of its names, the value of its constant, and its number of words ARRAY and
+-- RECORD.
 use Rattle.std.proofs.Common.{List, None, Option, Some, [], ap, arith, if◌then◌else◌, le-ltb, le_refl, le_trans, length, lt-ltb, nat_lt, option_and_then, option_map, refl, subst, subst₂, suc, sym, ℕ, ◌++◌, ◌+◌, ◌∙◌, ◌∷◌, ◌≡◌, ◌≤◌}
 use Rattle.ob0_tree.specs.Tree.{Tree, block, constants, declares, declares_constants, declares_procedure, declares_type, declares_types, declares_variable, declares_variables, end, formals, further_section, has_body, item, items, maybe, more, no_formals, none, occurrences, one, procedure, section, some_formals, then_section, type_name, type_names, value_section, variable, variable_section, variables}
 use Rattle.ob0_language_names.specs.Names.{Name, as_names}
@@ -22,7 +22,7 @@ use Rattle.ob0_language_types.proofs.Leaves.{Here, Literal}
 use Rattle.ob0_language_types.proofs.Literals.{some_inverse}
 use Rattle.ob0_language_types.proofs.Marks.{Marks, Sound, knowns, read, read_edited, scope_marked}
 
--- marks for variables, added one after another, each with its value
+-- adds marks for variables one after another, each with its value
 abbrev pub mark_all : {V P : Type 0} → ℕ → List (Name × V) → Marks V P → Marks V P
 mark_all k [] marks = marks
 mark_all k (x ∷ xs) marks = mark_all (suc k) xs (record { name = x.0; ordinal = k; object = a_variable x.1 } ∷ marks)
@@ -70,7 +70,7 @@ pub bind_names-append : {V P : Type 0} (xs ys : List Name) (o : Object V P) (env
 bind_names-append [] ys o env = refl
 bind_names-append (x ∷ xs) ys o env = bind_names-append xs ys o ((x, o) ∷ env)
 
--- names bound after other names
+-- Two lists of names can be bound one after the other.
 pub left-join : {V P : Type 0} (edit : Edit) (w : Value) (X : Marks V P → Name → ℕ → P → Type 0) (k : ℕ) (xs ys : List Name) (scope inner : Scope Name) (known between : Known) (marks : Marks V P)
     → inner ≡ declare_names k xs scope → Some (bind_names xs no_constant known) ≡ Some between
     → Left edit w X (after_names (after_names k xs) ys) (declare_names (after_names k xs) ys inner) (Some (bind_names ys no_constant between)) marks
@@ -92,7 +92,7 @@ agree-weaken p q P P' r s f (a, e, e', holds) = (a, e, e', go a holds)
     go None h = tt
     go (Some x) h = f x h
 
--- the sections of an edited block
+-- The sections of an edited block are the edited sections of the block.
 
 pub constants-of : (edit : Edit) (j k : ℕ) (cs : Tree Name (maybe constants)) → section_constants (edited_section edit j k cs) ≡ edited_constants edit j k (section_constants cs)
 constants-of edit j k none = refl
@@ -123,7 +123,7 @@ pub section_mode-leaf : (edit : Edit) (j : ℕ) (s : Tree Name section) → sect
 section_mode-leaf edit j (value_section ns t) = refl
 section_mode-leaf edit j (variable_section ns t) = refl
 
--- the number of ARRAY and RECORD
+-- An edit leaves the number of words ARRAY and RECORD unchanged.
 
 pub types_constructors-leaf : (edit : Edit) (j : ℕ) (ds : Tree Name (items type_name)) → types_constructors (leaf edit j ds) ≡ types_constructors ds
 types_constructors-leaf edit j end = refl
@@ -155,7 +155,7 @@ mutual
       (ap formals_constructors (formals-of edit j fs) ∙ formals_constructors-leaf edit j (formal_sections fs)) i
       + block_constructors-edited edit (j + length (occurrences fs)) (after_names k (formal_names (formal_sections fs))) b i
 
--- the constant's value in the part of a block that declares it
+-- The constant's value is its value in the part of a block that declares it.
 
 pub first_type-below : (k : ℕ) (b : Tree Name block) → first_type k b ≤ after_block k b
 first_type-below k (has_body (declares cs ts vs ps) statements) =
@@ -226,7 +226,7 @@ rest-has_value edit w known k p rest has_value l m =
     sym (ap (λ t. if t then value_in_procedure ((procedure_name p, no_constant) ∷ known) edit.constant (suc k) p else value_in_procedures ((procedure_name p, no_constant) ∷ known) edit.constant (after_procedure (suc k) p) rest)
     (le-ltb edit.constant (after_procedure (suc k) p) l)) ∙ has_value (omega (arith, l, below)) m
 
--- neither the procedure's ordinal nor its parameters' ordinals are the constant's
+-- Neither the procedure's ordinal nor its parameters' ordinals are the constant's.
 pub heading-outside : (edit : Edit) (w : Value) (known : Known) (k : ℕ) (x closing : Name) (fs : Tree Name (maybe formals)) (b : Tree Name block)
     → HasValueBetween edit w k (after_procedure (suc k) (declares_procedure x fs b closing)) (value_in_procedure known edit.constant (suc k) (declares_procedure x fs b closing)) → Outside edit k (after_names (suc k) (formal_names (formal_sections fs)))
 unfolding value_in_block
@@ -247,7 +247,8 @@ body-has_value edit w known k x closing fs b has_value l m =
     let above : suc k ≤ n = le-after_names (suc k) (formal_names (formal_sections fs)) in
     sym (ap (λ t. if t then None else value_in_block (bind_names (formal_names (formal_sections fs)) no_constant known) edit.constant n b) (le-ltb edit.constant n l)) ∙ has_value (omega (arith, l, above)) m
 
--- constants, then types
+-- Declaring the constants and then the types of an edited block gives the same bindings as before, except a removed
+-- one.
 pub first-edited : {V P Q : Type 0} (edit : Edit) (w : Value) → Literal edit w → (X : Marks V P → Name → ℕ → P → Type 0) (p q : ℕ → P → Q) (i j k : ℕ) (marks : Marks V P) → Sound edit w X k marks → 7 ≤ k → (b : Tree Name block)
     → EachBlock (Here edit w) j (scope_marked marks) k b → HasValueBetween edit w k (after_block k b) (value_in_block (knowns marks) edit.constant k b)
     → Agree (read p) (read_edited edit q) (Left edit w X (first_variable k b) (variables_scope k b (scope_marked marks)) (option_map (bind_names (named_types (block_types b)) no_constant) (declare_constants as_names (knowns marks) (block_constants b))))

@@ -1,4 +1,4 @@
--- An edited module passes the type check exactly if the original does.
+-- An edited module passes the type check exactly if the original module does.
 use Rattle.std.proofs.Common.{List, None, Option, Some, [], ap, arith, false, if◌then◌else◌, le_of_lt, le_refl, le_trans, length, map, nat_lt, negsuc, option_and_then, option_map, pos, refl, subst, subst₂, suc, sym, true, ℕ, ⊎_elim, ◌&&◌, ◌++◌, ◌+◌, ◌<◌, ◌∙◌, ◌∷◌, ◌≡◌, ◌≤◌}
 use Rattle.ob0_tree.specs.Tree.{Tree, adds, begins, block, body, compares, declares, declares_procedure, declares_variable, end, factor, further_section, has_body, integer, item, items, maybe, more, none, occurrences, one, parenthesised, procedure, product, sequence, sum, then_section, variable, written_type}
 use Rattle.ob0_language_names.specs.Names.{Name, as_names}
@@ -30,7 +30,7 @@ use Rattle.ob0_tree.specs.declared.tree.Sign.TheVariants as sign
 use Rattle.ob0_tree.specs.declared.tree.AddOperator.TheVariants as add_operator
 use Rattle.std.proofs.lemmas.Bool.{cases_Bool}
 
--- a procedure means its signature before and after the edit
+-- returns the signature of a procedure, which is the same before and after the edit
 abbrev pub as_signed : ℕ → Signature → Signature
 as_signed k signature = signature
 
@@ -90,7 +90,7 @@ unfolding body_fits
 body_fits-edited edit w lit n marks s j none here = refl
 body_fits-edited edit w lit n marks s j (one (begins statements)) here = sequence-leaf edit w lit n marks s j statements here
 
--- the marks of variables of one type
+-- Binding variables of one type to names gives marks, before and after the edit.
 pub typed-names : (edit : Edit) (w : Value) (k : ℕ) (xs : List Name) (shape : Shape) (marks : Marks Shape Signature) → Checked edit w k marks → 7 ≤ k → Outside edit k (after_names k xs)
     → LeftTyped edit w (after_names k xs) (declare_names k xs (scope_marked marks)) (Some (bind_names xs no_constant (knowns marks))) (mark_all k (with_value shape xs) marks)
     × (bind_names xs (a_variable shape) (read as_signed marks) ≡ read as_signed (mark_all k (with_value shape xs) marks))
@@ -134,7 +134,7 @@ variables-edited edit w lit i j k marks s seven (more (declares_variable ns t) g
     (variables-edited edit w lit (i + constructors t) (j + length (occurrences t)) n inner bound.0.sound (omega (arith, seven, above)) gs
     (subst (λ scope. EachVariable (Here edit w) (j + length (occurrences t)) scope n gs) (sym bound.0.scoped) here.1) (λ l m. outside (omega (arith, l, above)) (omega (arith, m, joined)))))))
 
--- the parameters of a heading
+-- The parameters of a heading are the same before and after the edit.
 pub parameters-edited : (edit : Edit) (w : Value) → Literal edit w → (i j k : ℕ) (marks : Marks Shape Signature) → Checked edit w k marks → 7 ≤ k → (fs : Tree Name (items further_section))
     → EachSection (Here edit w) j (scope_marked marks) k fs → Outside edit k (after_names k (formal_names fs))
     → Agree (λ ps. ps) (λ ps. ps) (λ ps. typed_names ps ≡ formal_names fs) (typed_parameters as_names (read as_signed marks) i fs) (typed_parameters as_names (read_edited edit as_signed marks) i (leaf edit j fs))
@@ -168,7 +168,7 @@ parameters-edited edit w lit i j k marks s seven (more (then_section f) fs) here
     (subst (λ scope. EachSection (Here edit w) (j + length (occurrences f)) scope n fs) (sym bound.0.scoped) here.1) (λ l m. outside (omega (arith, l, above)) (omega (arith, m, joined)))))
     (λ rest e. (Some (map (typed_parameter record { mode = section_mode f; shape = shape }) xs ++ rest), refl, refl, typed_names-append record { mode = section_mode f; shape = shape } xs rest ∙ ap (λ zs. xs ++ zs) e))))
 
--- a block's constants, types and variables
+-- A block's constants, types and variables have the same bindings before and after the edit, except a removed one.
 pub declarations-edited : (edit : Edit) (w : Value) → Literal edit w → (i j k : ℕ) (marks : Marks Shape Signature) → Checked edit w k marks → 7 ≤ k → (b : Tree Name block)
     → EachBlock (Here edit w) j (scope_marked marks) k b → HasValueBetween edit w k (after_block k b) (value_in_block (knowns marks) edit.constant k b)
     → Agree (read as_signed) (read_edited edit as_signed)
@@ -212,7 +212,7 @@ pub parameter_pairs-names : (ps : List (TypedParameter Name)) → names_of (para
 parameter_pairs-names [] = refl
 parameter_pairs-names (p ∷ ps) = λ i. p.name ∷ parameter_pairs-names ps i
 
--- bounds of the ordinals in and after a block
+-- The ordinals in a block and after it aren't below the block's first ordinal.
 pub procedures-below : (k : ℕ) (b : Tree Name block) → k ≤ first_procedure k b
 procedures-below k b = le_trans (le-after_names k (constant_names (block_constants b))) (types-below k b)
 

@@ -1,5 +1,4 @@
--- If a constant's literal replaces its uses, statements that are well-typed remain so, and no
--- others become so.
+-- Replacing uses of a constant by its literal leaves a statement well-typed exactly if it was.
 use Rattle.std.proofs.Common.{List, None, Option, Some, [], ap, false, if◌then◌else◌, length, refl, suc, sym, true, ℕ, ◌&&◌, ◌++◌, ◌+◌, ◌∙◌, ◌∷◌, ◌≡◌}
 use Rattle.ob0_tree.specs.Tree.{Tree, addend, arguments, assigns, branches, calls, compares, comparison, designator, else_branch, else_part, elsif_branch, elsif_part, empty, end, expression, factor, further_argument, further_statement, integer, item, items, maybe, more, multiplier, negation, no_arguments, none, occurrences, one, parenthesised, product, repeat_loop, runs, selector, sequence, some_arguments, statement, sum, then_argument, then_statement, while_loop}
 use Rattle.ob0_language_names.specs.Inlining.{Uses, inline_in}
@@ -16,7 +15,7 @@ use Rattle.ob0_language_types.proofs.InlinedTypes.{IsConstant, type_at-inlined, 
 abbrev pub alone : Tree Name factor → Tree Name expression
 alone f = compares (sum None (product f end) end) none
 
--- an expression with more than one factor isn't a designator
+-- An expression with more than one factor isn't a designator.
 pub compared-no_designator : (f : Tree Name factor) (c : Tree Name (item comparison)) → lone_designator (compares (sum None (product f end) end) (one c)) ≡ None
 compared-no_designator (designator x path) c = refl
 compared-no_designator (integer n) c = refl
@@ -35,7 +34,7 @@ product-no_designator (integer n) m ms rest c = refl
 product-no_designator (parenthesised e) m ms rest c = refl
 product-no_designator (negation f) m ms rest c = refl
 
--- the facts about a literal: it has the constant's type and isn't a variable
+-- holds if a literal has the constant's type and isn't a variable
 pub record Written (checked : Typed Name) (v : Tree Name factor) (w : Value) : Type 0 where
   pub typed : type_of_factor checked v ≡ value_type w
   pub no_variable : variable_type checked (lone_designator (alone v)) ≡ None

@@ -1,4 +1,4 @@
--- If a constant's value replaces its uses, the evaluation of an expression is unchanged.
+-- Replacing uses of a constant by its value leaves the evaluation of an expression unchanged.
 use Rattle.std.proofs.Common.{List, Some, [], add-zero, ap, arith, false, if◌then◌else◌, length, refl, subst, suc, sym, true, ℕ, ◌++◌, ◌+◌, ◌∙◌, ◌∷◌, ◌≡◌}
 use Rattle.ob0_tree.specs.Tree.{Tree, addend, adds, compares, designator, end, expression, factor, field, index, integer, items, more, multiplier, multiplies, negation, none, occurrences, one, parenthesised, product, relates, selector, simple, sum, term}
 use Rattle.ob0_language_names.specs.Inlining.{Uses, inline_in}
@@ -14,7 +14,7 @@ uses-split uses P k (x ∷ xs) ys h =
     let e : suc k + length xs ≡ k + suc (length xs) = omega arith in
     ((h.0, g.0), subst (λ n. UsesAre uses P n ys) e g.1)
 
--- the fixed facts of an inlining: the literal has the constant's value
+-- holds if the literal has the constant's value
 pub record Writing {P : Type 0} (meaning : Meanings Name Place P) (store : Store) (v : Tree Name factor) (w : Value) : Type 0 where
   pub has_value : evaluate_factor meaning store v ≡ gives w
 

@@ -25,15 +25,15 @@ use Rattle.ob0_tree.specs.declared.tree.Sign.TheVariants as sign
 use Rattle.ob0_tree.specs.declared.tree.AddOperator.TheVariants as add_operator
 use Rattle.std.proofs.lemmas.Bool.{cases_Bool}
 
--- states that an occurrence is a use exactly if its label is the constant's
+-- holds if an occurrence is a use exactly if its label is the constant's
 abbrev pub IsUseOf : Uses → ℕ → ℕ → Label → Type 0
 IsUseOf uses d j l = (uses j ≡ true → label_ordinal l ≡ Some d) × (label_ordinal l ≡ Some d → uses j ≡ true)
 
--- the facts that the labels give at a place
+-- the facts that the labels give about the occurrences at a place
 abbrev pub IsLabelled : Edit → Value → Placed
 IsLabelled edit w s j scope t = Each (Writes edit w) j scope (occurrences t) × AllGiveWay edit.uses (IsOf edit.constant scope) j (occurrences t)
 
--- the names in a literal
+-- The names in a literal aren't bound to the constant.
 literal-names : (d : ℕ) (w : Value) (v : Tree Name factor) → written_value w ≡ Some v → 7 ≤ d → (scope : Scope Name) → shown w scope ≡ true → NoneOf (IsOf d scope) (occurrences v)
 literal-names d (number (pos n)) v e low scope h = subst (λ v. NoneOf (IsOf d scope) (occurrences v)) (some_inverse e) tt
 literal-names d (number (negsuc n)) v e low scope h =
@@ -58,7 +58,7 @@ none-of-unshown edit w j scope [] e reported gives_way = tt
 none-of-unshown edit w j scope (x ∷ xs) e reported gives_way =
     (λ k. true≢false (sym (reported.0.1 (gives_way.0 k)) ∙ e), none-of-unshown edit w (suc j) scope xs e reported.1 gives_way.1)
 
--- if each use of the constant is a whole factor, no use remains
+-- If each use of the constant is a whole factor, no use remains after inlining everywhere.
 pub here-everywhere : (edit : Edit) (w : Value) → Literal edit w → (s : Sort) (j : ℕ) (scope : Scope Name) (t : Tree Name s) → IsLabelled edit w s j scope t → IsAlone edit.constant s j scope t → Here edit w s j scope t
 here-everywhere edit w lit s j scope t reported alone_there = (
   reported.0,
@@ -79,7 +79,7 @@ reported-from edit w j scope (x ∷ xs) both =
       (λ k. both.0.0.1 (label_ordinal-of as_names scope x ∙ k), rest.1),
     )
 
--- the facts of an edit without uses
+-- The facts about an edit without uses hold.
 no_writes : (v : Tree Name factor) (d : ℕ) (w : Value) (j : ℕ) (scope : Scope Name) (xs : List Name) → Each (Writes (writing no_uses v d) w) j scope xs
 no_writes v d w j scope [] = tt
 no_writes v d w j scope (x ∷ xs) = ((λ e. absurd (true≢false (sym e)), λ e. absurd (true≢false (sym e))), no_writes v d w (suc j) scope xs)
@@ -96,7 +96,7 @@ bound-exactly m d i l e =
     let bound : binds m i ≡ label_ordinal l = ap (option_and_then label_ordinal) e in
     (λ u. sym bound ∙ same_ordinal-true (binds m i) d u, λ k. ap (λ o. same_ordinal o d) (bound ∙ k) ∙ eq-eqb d d refl)
 
--- in a well-typed module each use of the constant is a whole factor
+-- In a well-typed module each use of the constant is a whole factor.
 pub alone-module : (m : Tree Name module_text) (d : ℕ) (w : Value) (v : Tree Name factor) → IsConstantWritten m d w v → WellTyped m → EachBlock (IsAlone d) 0 (predeclared_scope as_names) 7 (module_block m)
 unfolding WellTyped fits_over
 alone-module (is_module x b closing) d w v c well =

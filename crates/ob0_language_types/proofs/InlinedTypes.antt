@@ -1,4 +1,4 @@
--- If a constant's value replaces its uses, the type of an expression is unchanged.
+-- Replacing uses of a constant by its value leaves the type of an expression unchanged.
 use Rattle.std.proofs.Common.{None, Option, Some, [], add-zero, ap, false, if◌then◌else◌, length, refl, subst, suc, sym, true, ℕ, ◌+◌, ◌∙◌, ◌≡◌}
 use Rattle.ob0_tree.specs.Tree.{Tree, addend, adds, compares, designator, end, expression, factor, field, index, integer, items, more, multiplier, multiplies, negation, none, occurrences, one, parenthesised, product, relates, selector, simple, sum, term}
 use Rattle.ob0_language_names.specs.Inlining.{Uses, inline_in}

@@ -1,7 +1,6 @@
--- Edited expressions and types: in the environment after the edit they mean the same as before.
--- Two trees mean the same if their occurrences mean the same. To prove this, each name is tagged
--- with its meaning (`Tag`) and the lemmas of naturality are used, so no induction over expressions
--- or statements is needed.
+-- Edited expressions and types mean the same in the environment after the edit as the original ones before. Two trees
+-- mean the same if their occurrences mean the same. To prove this, each name is tagged with its meaning (`Tag`) and the
+-- lemmas of naturality are used. So no induction over expressions or statements is needed.
 use Rattle.std.proofs.Common.{Bool, List, None, Option, Some, [], ap, codes, eqb-true, false, option_map, refl, suc, sym, true, true≢false, ℕ, ⊎_elim, ◌∙◌, ◌∷◌, ◌≡◌, ◌≤◌}
 use Rattle.ob0_tree.specs.Tree.{Tree, expression, occurrences, written_type}
 use Rattle.ob0_language_names.specs.Mapping.{with_names}
@@ -24,8 +23,7 @@ use Rattle.ob0_language_types.proofs.Marks.{Mark, Marks, Sound, Stays, edited-ho
 use Rattle.ob0_language_types.proofs.TypeNaturality.{constant_value-map, denoted-map}
 use Rattle.std.proofs.lemmas.Bool.{cases_Bool, false_from_ne_true}
 
--- true if the literal's name is bound to the predeclared TRUE or FALSE, or if the literal has no
--- name
+-- returns true if the literal's name is bound to the predeclared TRUE or FALSE, or if the literal has no name
 abbrev pub shown : Value → Scope Name → Bool
 shown (truth true) scope = same_ordinal (ordinal_of as_names scope (codes "TRUE")) 2
 shown (truth false) scope = same_ordinal (ordinal_of as_names scope (codes "FALSE")) 3
@@ -33,7 +31,7 @@ shown (number n) scope = true
 shown (elements vs) scope = true
 shown (members k ms) scope = true
 
--- states that a use is bound to the constant, and that the literal's name is visible there
+-- holds if a use is bound to the constant, and the literal's name is visible there
 abbrev pub Writes : Edit → Value → ℕ → Scope Name → Name → Type 0
 Writes edit w j scope x = (edit.uses j ≡ true → ordinal_of as_names scope x ≡ Some edit.constant) × (edit.uses j ≡ true → shown w scope ≡ true)
 
@@ -41,8 +39,8 @@ abbrev pub AllStay : Edit → Scope Name → List Name → Type 0
 AllStay edit scope [] = Unit {0}
 AllStay edit scope (x ∷ xs) = Stays edit scope x × AllStay edit scope xs
 
--- the facts at a place: `Writes` holds of each occurrence, and no name of the edited tree is bound
--- to a removed declaration
+-- holds if `Writes` holds for each occurrence at a place, and no name of the edited tree is bound to a removed
+-- declaration
 abbrev pub Here : Edit → Value → Placed
 Here edit w s j scope t = Each (Writes edit w) j scope (occurrences t) × AllStay edit scope (occurrences (leaf edit j t))
 
@@ -59,7 +57,7 @@ pub none-used : (edit : Edit) (w : Value) (j : ℕ) (scope : Scope Name) (xs : L
 none-used edit w j scope [] e here = tt
 none-used edit w j scope (x ∷ xs) e here = (false_from_ne_true (edit.uses j) (λ u. true≢false (sym (here.0.1 u) ∙ e)), none-used edit w (suc j) scope xs e here.1)
 
--- the meanings of names in the edited environment
+-- returns the meanings of names in the edited environment
 
 abbrev pub edited_meanings : {V P Q : Type 0} → Edit → (ℕ → P → Q) → Marks V P → Meanings Name V Q
 edited_meanings edit q marks = meanings as_names (read_edited edit q marks)
@@ -106,7 +104,7 @@ literal-constant edit w lit meaning seen = record {
   has_value = literal-has_value {P = Unit {0}} (constants_only meaning) [] edit.literal w lit.written lit.scalar (seen-constants Place (Unit {0}) meaning w seen);
 }
 
--- trees mean the same if their occurrences mean the same constants and types
+-- a name's meaning and spelling, which replace the name in a tree
 
 pub record Tag (V P : Type 0) : Type 0 where
   pub object : Option (Object V P)
@@ -178,7 +176,7 @@ edited-same edit p q marks (x ∷ xs) stay = (
   edited-same edit p q marks xs stay.1,
 )
 
--- a constant expression, and a type's text
+-- A constant expression has the same value, and a type's text denotes the same type, after the edit.
 
 pub constant-leaf : {V P Q : Type 0} (edit : Edit) (w : Value) → Literal edit w → (X : Marks V P → Name → ℕ → P → Type 0) (p q : ℕ → P → Q) (n : ℕ) (marks : Marks V P) → Sound edit w X n marks → (j : ℕ) (e : Tree Name expression)
     → Here edit w expression j (scope_marked marks) e → constant_value (edited_meanings edit q marks) (leaf edit j e) ≡ constant_value (read_meanings p marks) e
@@ -200,7 +198,7 @@ denoted-leaf edit w lit X p q n marks s j k t here =
     (λ not_shown. ap (denoted (read_meanings p marks) k) (inline-nothing edit.uses edit.literal j t (none-used edit w j (scope_marked marks) (occurrences t) not_shown here.0)))
     (cases_Bool (shown w (scope_marked marks)))
 
--- the constants that are known
+-- A constant expression has the same value if only the constants are known.
 pub known-value : {V P Q : Type 0} (p : ℕ → P → Q) (marks : Marks V P) (e : Tree Name expression) → constant_value (meanings as_names (knowns marks)) e ≡ constant_value (read_meanings p marks) e
 known-value {V} {P} {Q} p marks e =
     ap (constant_value (meanings as_names (knowns marks))) (sym (with_names-id e))

@@ -1,5 +1,5 @@
--- The literal that is written for a value has that value, if TRUE and FALSE mean the predeclared
--- constants there.
+-- The literal that is written for a value has that value, if TRUE and FALSE mean the predeclared constants at its
+-- place.
 use Rattle.std.proofs.Common.{Some, [], ap, arith, codes, false, if◌then◌else◌, ltb-false, ltb-true, nat_lt, negsuc, option_and_then, pos, refl, subst, suc, sym, true, unwrap_or, ℕ, ◌∙◌, ◌≡◌}
 use Rattle.ob0_tree.specs.Tree.{Tree, adds, compares, end, factor, integer, more, none, parenthesised, product, sum}
 use Rattle.ob0_language_names.specs.Names.{Name}
@@ -14,7 +14,7 @@ use Rattle.ob0_tree.specs.declared.tree.AddOperator.TheVariants as add_operator
 pub some_inverse : {A : Type 0} {a b : A} → Some a ≡ Some b → a ≡ b
 some_inverse {A} {a} {b} e = ap (λ o. unwrap_or o a) e
 
--- states that the name in a literal, if it has one, means the predeclared constant
+-- holds if the name in a literal, if it has one, means the predeclared constant
 abbrev pub IsSeen : {V P : Type 0} → Meanings Name V P → Value → Type 0
 IsSeen meaning (truth true) = meaning.object_for (codes "TRUE") ≡ Some (a_constant (truth true))
 IsSeen meaning (truth false) = meaning.object_for (codes "FALSE") ≡ Some (a_constant (truth false))

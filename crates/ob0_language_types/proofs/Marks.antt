@@ -1,6 +1,6 @@
--- Environments with the ordinals of their bindings, before and after an edit.
--- A mark is a name, an ordinal and an object; `read` gives the environment of marks before the
--- edit, `read_edited` after it.
+-- Environments in which bindings have the ordinals of their declarations, before and after an edit.
+-- A mark is a name with an ordinal and an object. `read` returns the environment of marks before the edit, and
+-- `read_edited` the environment after it.
 use Rattle.std.proofs.Common.{Bool, List, None, Option, Some, [], ap, arith, eqb-true, false, if◌then◌else◌, le_of_lt, option_map, refl, sym, true, ℕ, ◌&&◌, ◌<◌, ◌==◌, ◌∙◌, ◌∷◌, ◌≡◌, ◌≤◌}
 use Rattle.ob0_language_names.specs.Names.{Name, as_names, same_name}
 use Rattle.ob0_language_names.specs.Scopes.{Scope, ordinal_of}
@@ -48,7 +48,7 @@ abbrev pub knowns : {V P : Type 0} → Marks V P → Known
 knowns [] = []
 knowns (b ∷ marks) = (b.name, known_object b.object) ∷ knowns marks
 
--- the first mark with a name, and the list of marks that begins with it
+-- `found` returns the first mark with a name. `marks_from` returns the list of marks that begins with this mark.
 abbrev pub found : {V P : Type 0} → Marks V P → Name → Option (Mark V P)
 found [] x = None
 found (b ∷ marks) x = elim (same_name x b.name) [ true ↦ Some b | false ↦ found marks x ]
@@ -57,7 +57,7 @@ abbrev pub marks_from : {V P : Type 0} → Marks V P → Name → Marks V P
 marks_from [] x = []
 marks_from (b ∷ marks) x = elim (same_name x b.name) [ true ↦ b ∷ marks | false ↦ marks_from marks x ]
 
--- states that the edit doesn't remove the declaration that the name is bound to
+-- holds if the edit doesn't remove the declaration that the name is bound to
 abbrev pub Stays : Edit → Scope Name → Name → Type 0
 Stays edit scope x = edit.gone ≡ true → ordinal_of as_names scope x ≡ Some edit.constant → ⊥
 
@@ -67,7 +67,7 @@ read-from q (b ∷ marks) x =
     elim (same_name x b.name) as (λ v. (elim v [ true ↦ read q (b ∷ marks) | false ↦ from_binding as_names (read q marks) x ]) ≡ read q (elim v [ true ↦ b ∷ marks | false ↦ marks_from marks x ]))
     [ true ↦ refl | false ↦ read-from q marks x ]
 
--- the mark that is found first for a name isn't removed
+-- If the declaration of a name isn't removed, its first mark is also found after the edit.
 pub not-left : (edit : Edit) (k : ℕ) → (edit.gone ≡ true → Some k ≡ Some edit.constant → ⊥) → is_left edit k ≡ false
 not-left edit k h = false_from_ne_true (is_left edit k) (λ t. let p = and_parts edit.gone (k == edit.constant) t in h p.0 (ap Some (eqb-true k edit.constant p.1)))
 
@@ -119,7 +119,7 @@ known-found (b ∷ marks) x =
     elim (same_name x b.name) as (λ v. newest (elim v [ true ↦ knowns (b ∷ marks) | false ↦ from_binding as_names (knowns marks) x ]) ≡ option_map (λ b. known_object b.object) (elim v [ true ↦ Some b | false ↦ found marks x ]))
     [ true ↦ refl | false ↦ known-found marks x ]
 
--- states that the marks of the constant, of TRUE and of FALSE have their objects
+-- holds if the mark of the constant, of TRUE or of FALSE has its object
 pub record IsRight {V P : Type 0} (edit : Edit) (w : Value) (b : Mark V P) : Type 0 where
   pub has_value : b.ordinal ≡ edit.constant → b.object ≡ a_constant w
   pub yes_is : b.ordinal ≡ 2 → b.object ≡ a_constant (truth true)
@@ -132,7 +132,7 @@ OfProcedure X (a_constant v) = Unit {0}
 OfProcedure X (a_variable p) = Unit {0}
 OfProcedure X (a_standard p) = Unit {0}
 
--- states that newer marks have greater ordinals, all below n, and that X holds of each procedure
+-- Holds if newer marks have greater ordinals, all below `n`, and each has its object. `X` must hold for each procedure.
 abbrev pub Sound : {V P : Type 0} → Edit → Value → (Marks V P → Name → ℕ → P → Type 0) → ℕ → Marks V P → Type 0
 Sound edit w X n [] = Unit {0}
 Sound edit w X n (b ∷ marks) = (b.ordinal < n) × IsRight edit w b × OfProcedure (X marks b.name b.ordinal) b.object × Sound edit w X b.ordinal marks
@@ -152,7 +152,7 @@ found-right edit w X n [] x s = tt
 found-right edit w X n (b ∷ marks) x s =
     elim (same_name x b.name) as (λ v. HoldsOf (IsRight edit w) (elim v [ true ↦ Some b | false ↦ found marks x ])) [ true ↦ s.1 | false ↦ found-right edit w X b.ordinal marks x s.3 ]
 
--- the mark of the constant, of TRUE or of FALSE, if it is found
+-- If the mark of the constant, of TRUE or of FALSE is found for a name, the name has its object.
 
 pub has_value-found : {V P Q : Type 0} (edit : Edit) (w : Value) (q : ℕ → P → Q) (o : Option (Mark V P)) → HoldsOf (IsRight edit w) o → option_map (λ b. b.ordinal) o ≡ Some edit.constant → option_map (object_of q) o ≡ Some (a_constant w)
 has_value-found edit w q None right e = absurd (cc)

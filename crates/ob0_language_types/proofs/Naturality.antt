@@ -1,5 +1,4 @@
--- The meaning of a tree over other names: a mapped tree means the same as the original, with the
--- meanings of the new names.
+-- A tree in which names are mapped means the same as the original tree, with the meanings of the new names.
 use Rattle.std.proofs.Common.{◌≡◌, true, false, ◌∷◌, ◌++◌, map, None, option_map, refl}
 use Rattle.ob0_tree.specs.Tree.{Tree, addend, adds, arguments, compares, designator, end, expression, factor, field, further_argument, index, integer, items, maybe, more, multiplier, multiplies, negation, no_arguments, none, one, parenthesised, product, relates, selector, simple, some_arguments, sum, term, then_argument}
 use Rattle.ob0_language_names.specs.Mapping.{with_names}
@@ -8,7 +7,7 @@ use Rattle.ob0_language_types.specs.Expressions.{Meanings, designate, element_st
 use Rattle.ob0_language_types.specs.Typing.{lone_designator}
 use Rattle.ob0_language_values.specs.Values.{Place, Store, Value, add, add_is_settled, at_field, at_path, gives, multiply, multiply_is_settled, negate, or_stuck, part, read_place, relate, apply_sign, ◌>>=◌}
 
--- the meanings of names, each looked up under its new name
+-- returns the meanings of names, each looked up under its new name
 abbrev pub through : {N M V P : Type 0} → (N → M) → (N → M) → Meanings M V P → Meanings N V P
 through f h meaning = record { object_for = λ x. meaning.object_for (f x); written = λ x. meaning.written (h x) }
 
@@ -62,7 +61,7 @@ designate-map f h meaning store x path = λ i.
 abbrev pub map_designator : {N M : Type 0} → (N → M) → (N → M) → N × Tree N (items selector) → M × Tree M (items selector)
 map_designator f h d = (f d.0, with_names f h d.1)
 
--- an expression that is only a designator remains so under other names, and no other becomes one
+-- An expression under other names is only a designator exactly if the original expression is.
 pub lone_designator-map : {N M : Type 0} (f h : N → M) (e : Tree N expression) → lone_designator (with_names f h e) ≡ option_map (map_designator f h) (lone_designator e)
 lone_designator-map f h (compares (sum None (product (designator x path) end) end) none) = refl
 lone_designator-map f h _ = refl

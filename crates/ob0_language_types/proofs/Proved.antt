@@ -1,4 +1,4 @@
--- The proofs of the laws of types.
+-- The proofs of the laws about types.
 use Rattle.std.proofs.Common.{◌≡◌, IsTrue, sym, ap, ◌∙◌, subst}
 use Rattle.ob0_language_names.specs.Names.{as_labels, as_names}
 use Rattle.ob0_language_types.specs.Laws.{FitsByOrdinal, WellTypedByShape}

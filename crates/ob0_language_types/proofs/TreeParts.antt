@@ -1,4 +1,4 @@
--- The trees of expressions, by the parts of their nodes.
+-- The tree of an expression is built from the trees of its parts.
 use Rattle.std.proofs.Common.{◌≡◌, Some, None, sym, ap, ◌∙◌}
 use Rattle.ob0_tree.specs.declared.tree.Compound.{Compound, out-Compound, roll-out-Compound, back-Compound-compared}
 use Rattle.ob0_tree.specs.declared.tree.Comparison.{Comparison, out-Comparison, roll-out-Comparison}

@@ -1,5 +1,5 @@
--- Types and constants over other names: they are the same for a mapped tree, with the meanings of
--- the new names.
+-- A tree in which names are mapped has the same types and constants as the original tree, with the meanings of the new
+-- names.
 use Rattle.std.proofs.Common.{◌≡◌, ℕ, suc, ◌+◌, [], ◌∷◌, map, Some, option_map, refl, ◌∙◌}
 use Rattle.ob0_tree.specs.Tree.{Tree, addend, adds, array_type, compares, designator, end, expression, factor, field, fields, further_fields, further_name, index, integer, items, listed, more, multiplier, multiplies, named_type, names, negation, no_fields, none, one, parenthesised, product, record_type, relates, selector, simple, some_fields, sum, term, then_fields, then_name, written_type}
 use Rattle.ob0_language_names.specs.Mapping.{with_names}
@@ -47,7 +47,7 @@ mutual
   type_at-map f h meaning s (more (index e) rest) = λ i.
       type_of-map f h meaning e i >>= (λ j. element_type s j >>= (λ t. type_at-map f h meaning t rest i))
 
--- two constant expressions have the same value if their names mean the same constants
+-- Two constant expressions have the same value if their names mean the same constants.
 pub constant_value-map : {N M V P W Q : Type 0} (f h : N → M) (there : Meanings M V P) (here : Meanings N W Q) (e : Tree N expression)
     → ((x : N) → constant_of (there.object_for (f x)) ≡ constant_of (here.object_for x)) → ((x : N) → there.written (h x) ≡ here.written x) → constant_value there (with_names f h e) ≡ constant_value here e
 unfolding constant_value
@@ -78,7 +78,7 @@ pub fields_written : {N M V P W Q : Type 0} (f h : N → M) (there : Meanings M 
     → (ns : Tree N names) → map there.written (names_listed (with_names f h ns)) ≡ map here.written (names_listed ns)
 fields_written f h there here hw (listed x xs) = λ i. hw x i ∷ further_fields_written f h there here hw xs i
 
--- two texts of types denote the same type if their names mean the same constants and types
+-- Two texts of types denote the same type if their names mean the same constants and types.
 mutual
   unfolding denoted
 

@@ -1,4 +1,4 @@
--- In a tree that is well-typed, each use of a constant is a whole factor.
+-- In a well-typed tree each use of a constant is a whole factor.
 use Rattle.std.proofs.Common.{None, Option, Some, [], ap, map, option_and_then, option_map, refl, suc, sym, true, true≢false, ℕ, ◌&&◌, ◌++◌, ◌+◌, ◌∙◌, ◌∷◌, ◌≡◌}
 use Rattle.ob0_tree.specs.Tree.{Tree, addend, adds, arguments, array_type, assigns, branches, calls, compares, designator, else_branch, else_part, elsif_branch, elsif_part, empty, end, expression, factor, field, fields, further_argument, further_fields, further_statement, index, integer, item, items, maybe, more, multiplier, multiplies, named_type, negation, no_arguments, no_fields, none, one, parenthesised, product, record_type, relates, repeat_loop, runs, selector, sequence, simple, some_arguments, some_fields, statement, sum, term, then_argument, then_fields, then_statement, while_loop, written_type}
 use Rattle.ob0_language_names.specs.Elsewhere.{names_elsewhere}
@@ -16,11 +16,11 @@ pub then_some : {A B : Type 0} (o : Option A) (next : A → Option B) (b : B) �
 then_some None next b h = absurd (cc)
 then_some (Some a) next b h = (a, refl, h)
 
--- states that the names that satisfy K mean one constant
+-- holds if the names that satisfy `K` mean one constant
 abbrev pub AreConstant : {V P : Type 0} → (Name → Type 0) → Meanings Name V P → Value → Type 0
 AreConstant K meaning w = (x : Name) → K x → meaning.object_for x ≡ Some (a_constant w)
 
--- a constant has no selectors
+-- A constant with selectors has no type.
 
 integer-alone : {P : Type 0} (meaning : Meanings Name Shape P) (s : Tree Name (item selector)) (rest : Tree Name (items selector)) → type_at meaning integer_shape (more s rest) ≡ None
 unfolding type_of
@@ -92,7 +92,7 @@ mutual
       let (y, ey, h₂) = then_some (element_type s i) (λ y. type_at meaning y rest) t h₁ in
       none-of-join K (names_elsewhere e) (names_elsewhere rest) (type_of-elsewhere K meaning w c e i ei) (type_at-elsewhere K meaning w c y rest t h₂)
 
--- constant expressions and types
+-- In constant expressions that have a value, and in types, each use of the constant is a whole factor.
 
 pub constant_value-elsewhere : {V P : Type 0} (K : Name → Type 0) (meaning : Meanings Name V P) (w : Value) → AreConstant K meaning w → (e : Tree Name expression) (v : Value) → constant_value meaning e ≡ Some v → NoneOf K (names_elsewhere e)
 unfolding constant_value
@@ -126,7 +126,7 @@ mutual
       let (later, el, h₁) = then_some (denoted_groups meaning (j + group_constructors g) rest) (λ later. denoted_group meaning j later g) fs h in
       none-of-join K (names_elsewhere g) (names_elsewhere rest) (denoted_group-elsewhere K meaning w c j later g fs h₁) (denoted_groups-elsewhere K meaning w c (j + group_constructors g) rest later el)
 
--- statements
+-- In well-typed statements each use of the constant is a whole factor.
 
 agree-parts : (a b : Option Shape) → agree a b ≡ true → (s : Shape) × (t : Shape) × (a ≡ Some s) × (b ≡ Some t)
 agree-parts None None h = absurd (true≢false (sym h))

@@ -1,5 +1,4 @@
--- The type check by names accepts a module exactly if the check by ordinals accepts its numbered
--- tree.
+-- The type check by names accepts a module exactly if the check by ordinals accepts its numbered tree.
 use Rattle.std.proofs.Common.{◌≡◌, ℕ, suc, ◌+◌, ◌<◌, ◌≤◌, Bool, true, false, ◌&&◌, List, [], ◌∷◌, ◌++◌, map, Some, None, Option, option_map, option_and_then, sym, refl, ap, ◌∙◌, subst, subst₂, le_refl, le_of_lt, arith, lit<}
 use Rattle.ob0_tree.specs.Tree.{Tree, begins, block, body, constant, declares, declares_constant, declares_procedure, declares_type, declares_variable, end, further_section, has_body, is_module, item, items, maybe, module_text, more, none, one, procedure, section, then_section, type_name, value_section, variable, variable_section, written_type}
 use Rattle.ob0_language_names.specs.Mapping.{with_names}
@@ -20,7 +19,7 @@ use Rattle.ob0_language_types.proofs.FitNaturality.{sequence_fits-map}
 use Rattle.ob0_language_types.proofs.TypeNaturality.{constant_value-map, constructors-map, denoted-map}
 use Rattle.std.proofs.lemmas.Bool.{eq-eqb, ne_eqb}
 
--- an environment whose bindings also have the ordinals of their declarations
+-- a binding of a name, with the ordinal of its declaration
 
 pub record TypeBound (N : Type 0) : Type 0 where
   pub name : N
@@ -76,7 +75,7 @@ pub newest-same : {N : Type 0} (noted : TypeNoted N) → newest (typed_by_ordina
 newest-same [] = refl
 newest-same (b ∷ noted) = refl
 
--- the label of a looked-up name
+-- returns the label of a looked-up name
 abbrev pub typed_label : {N : Type 0} → Naming N → TypeNoted N → N → Label
 typed_label naming noted = label_of naming (as_label naming) (typed_scope noted)
 
@@ -87,7 +86,7 @@ typed_meanings-agree naming n noted below x =
 abbrev pub TypedWithin : {N : Type 0} → ℕ → Scope N → TypeNoted N → Type 0
 TypedWithin n scope noted = (typed_scope noted ≡ scope) × TypedBelow n noted
 
--- declarations
+-- Declarations and types have the same results by names and by ordinals.
 
 pub denoted-agrees : {N : Type 0} (naming : Naming N) (n : ℕ) (noted : TypeNoted N) → TypedBelow n noted → (j : ℕ) (t : Tree N written_type) → denoted (meanings as_labels (typed_by_ordinal noted)) j (relabel_uses naming (as_label naming) (typed_scope noted) t) ≡ denoted (meanings naming (typed_by_name noted)) j t
 denoted-agrees naming n noted below j t =
@@ -137,7 +136,7 @@ pub noted_names-within : {N : Type 0} (k : ℕ) (xs : List N) (o : Object Shape 
 noted_names-within k [] o noted below = (refl, below)
 noted_names-within k (x ∷ xs) o noted below = noted_names-within (suc k) xs o (record { name = x; ordinal = k; object = o } ∷ noted) (le_refl (suc k), below)
 
--- moves a fact along the scope and the environments that names extend
+-- Moves a fact along the scope and the environments to which names are added.
 pub typed_moved : {N : Type 0} (naming : Naming N) (Goal : Scope N → TypeEnvironment N → TypeEnvironment Label → Type 0) (k : ℕ) (xs : List N) (o : Object Shape Signature) (noted : TypeNoted N) → TypedBelow k noted
     → Goal (typed_scope (noted_names k xs o noted)) (typed_by_name (noted_names k xs o noted)) (typed_by_ordinal (noted_names k xs o noted))
     → Goal (declare_names k xs (typed_scope noted)) (bind_names xs o (typed_by_name noted)) (bind_names (label_names (as_label naming) k xs) o (typed_by_ordinal noted))
@@ -166,7 +165,7 @@ variables_typed naming j k noted below (more (declares_variable ns u) gs) =
     k (names_listed ns) (a_variable s) noted below
     (variables_typed naming (j + constructors u) (after_names k (names_listed ns)) (noted_names k (names_listed ns) (a_variable s) noted) (noted_names-within k (names_listed ns) (a_variable s) noted below).1 gs))))
 
--- parameters
+-- `typed_names` returns the names of parameters. `label_typed` returns the parameters with labels instead of names.
 
 abbrev pub typed_names : {N : Type 0} → List (TypedParameter N) → List N
 typed_names [] = []
@@ -238,7 +237,7 @@ pub label_typed-formals : {N : Type 0} (k : ℕ) (ps : List (TypedParameter N)) 
 label_typed-formals k [] = refl
 label_typed-formals k (p ∷ ps) = λ i. p.formal ∷ label_typed-formals (suc k) ps i
 
--- blocks
+-- Two tests agree after optional values that agree.
 
 pub hold-agrees : {X Y Z : Type 0} (p : X → Y) (q : X → Z) (P : X → Type 0) (r : Option Y) (s : Option Z) (here : Y → Bool) (there : Z → Bool)
     → Agree p q P r s → ((x : X) → P x → there (q x) ≡ here (p x)) → some_and s there ≡ some_and r here
@@ -267,7 +266,7 @@ firsts_typed {N} naming j k noted below (has_body (declares cs ts vs ps) stateme
     (declare_types naming (typed_by_name inner) j (section_types ts)) (declare_types as_labels (typed_by_ordinal inner) j (relabel_types naming (as_label naming) s (first_type k b) (section_types ts))))
     within.0 (types_typed naming j (first_type k b) inner within.1 (section_types ts))))
 
--- a block's constants, types and variables
+-- A block's constants, types and variables have the same bindings by names and by ordinals.
 pub declarations_typed : {N : Type 0} (naming : Naming N) (j k : ℕ) (noted : TypeNoted N) → TypedBelow k noted → (b : Tree N block)
     → Agree typed_by_name typed_by_ordinal (TypedWithin (first_procedure k b) (procedures_scope k b (typed_scope noted)))
     (option_and_then (declare_typed naming (after_types j b) (block_variables b)) (declare_first naming (typed_by_name noted) j b))

@@ -1,5 +1,4 @@
--- A worked constant: its value, its uses, and the declaration to which TRUE would be bound at one
--- of them.
+-- A worked example of a constant: its value, its uses, and the declaration to which TRUE would be bound at a use.
 use Rattle.std.proofs.Common.{None, Some, codes, negsuc, refl, ◌≡◌}
 use Rattle.ob0_language_names.specs.Occurrences.{binds}
 use Rattle.ob0_language_names.specs.SeenNames.{sees}

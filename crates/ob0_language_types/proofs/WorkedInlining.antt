@@ -1,4 +1,4 @@
--- Worked inlining: the least number, here and everywhere.
+-- Worked examples of inlining: the least number replaces one use, and all uses.
 use Rattle.std.proofs.Common.{◌≡◌, negsuc, Some, refl}
 use Rattle.ob0_tree.specs.declared.tree.Sign.TheVariants as sign
 use Rattle.ob0_tree.specs.Tree.{compares, end, integer, none, parenthesised, product, sum}

@@ -1,5 +1,5 @@
--- Modules that are well-typed and modules that aren't. Names declared twice and wrong closing names
--- come first, then types.
+-- Worked examples of modules that are well-typed and of modules that aren't. Names declared twice and wrong closing
+-- names come first, then types.
 use Rattle.std.proofs.Common.{◌≡◌, true, false, Some, None, codes, refl}
 use Rattle.ob0_tree.specs.declared.tree.Relation.TheVariants as relation
 use Rattle.ob0_tree.specs.declared.tree.Sign.TheVariants as sign

@@ -1,4 +1,5 @@
--- Worked values: an index at the end of an array, DIV and MOD of a negative number, and the ends of the number range.
+-- Worked examples of values: an index at the end of an array, DIV and MOD of a negative number, and the ends of the
+-- number range.
 use Rattle.std.proofs.Common.{◌≡◌, pos, negsuc, refl}
 use Rattle.ob0_tree.specs.declared.tree.AddOperator.TheVariants as add_operator
 use Rattle.ob0_tree.specs.declared.tree.MultiplyOperator.TheVariants as multiply_operator

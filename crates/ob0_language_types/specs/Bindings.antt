@@ -1,5 +1,5 @@
--- The bindings of all declarations of a module, newest first, each made in the environment in which
--- its declaration is checked.
+-- The bindings that all declarations of a module make, newest first. Each is made in the environment in which its
+-- declaration is checked.
 -- Rule: docs/LANGUAGE.md, Scopes 2 to 4.
 use Rattle.std.specs.Prelude.{ℕ, ◌+◌, ◌-◌, List, [], ◌++◌, length, take, Some, None, Option}
 use Rattle.ob0_tree.specs.Tree.{Tree, block, declares, declares_procedure, end, has_body, item, items, module_text, more, procedure}
@@ -13,21 +13,21 @@ use Rattle.ob0_language_types.specs.Expressions.{Object, a_variable}
 use Rattle.ob0_language_types.specs.WellTyped.{Signature, TypeEnvironment, bind_typed, heading, typed_parameters}
 use Rattle.ob0_language_values.specs.Values.{Shape}
 
--- the bindings that an environment has in addition to an earlier one: its first ones, because the
--- newest come first
+-- Returns the bindings that an environment has in addition to an earlier one. These are its first ones, because the
+-- newest come first.
 abbrev pub since : {A : Type 0} → List A → List A → List A
 since before now = take (length now - length before) now
 
--- the list made from an optional value; empty if there is none
+-- returns the list that is made from an optional value; empty if there is no value
 abbrev pub for_some : {A B : Type 0} → Option A → (A → List B) → List B
 for_some None list = []
 for_some (Some a) list = list a
 
--- the bindings of a block: its constants, types and variables, and all of its procedures
+-- Returns the bindings of a block: its constants, types, variables and procedures.
 unfoldable mutual
   unfolding declare_procedure typed_parameters
 
-  -- the bindings of a block; k is the ordinal of its first ARRAY or RECORD
+  -- returns the bindings of a block; `k` is the ordinal of its first ARRAY or RECORD
   pub block_bindings : {N : Type 0}
       → Naming N
       → TypeEnvironment N
@@ -40,7 +40,7 @@ unfoldable mutual
       (after_variables k (has_body (declares cs ts vs ps) statements)) ps
       ++ since env inner)
 
-  -- the bindings of procedures, beginning with the bindings of the last procedure
+  -- returns the bindings of procedures, beginning with the bindings of the last procedure
   pub procedures_bindings : {N : Type 0}
       → Naming N
       → TypeEnvironment N
@@ -53,7 +53,7 @@ unfoldable mutual
       (k + procedure_constructors p) rest
       ++ procedure_bindings naming env k p)
 
-  -- the bindings of a procedure: its name, its parameters and its block
+  -- returns the bindings of a procedure: its block's bindings, its parameters and its name
   pub procedure_bindings : {N : Type 0}
       → Naming N
       → TypeEnvironment N
@@ -66,21 +66,21 @@ unfoldable mutual
       (k + formals_constructors (formal_sections fs)) b
       ++ bind_typed ps (heading x ps []))
 
--- the bindings of the predeclared names and of a whole module
+-- returns the bindings of the predeclared names and of a whole module
 abbrev pub module_bindings : {N : Type 0} → Naming N → Tree N module_text → TypeEnvironment N
 module_bindings naming m =
     block_bindings naming (outermost naming) 0 (module_block m) ++ outermost naming
 
--- the object in the newest binding of an ordinal
+-- returns the object in the newest binding of an ordinal; None if the ordinal isn't bound
 abbrev pub object_bound : TypeEnvironment Label → ℕ → Option (Object Shape Signature)
 object_bound bindings k = newest (from_binding as_labels bindings (declared k))
 
--- the object that the declaration with ordinal k makes, found in the bindings of the numbered tree,
--- in which each name is its ordinal
+-- Returns the object that the declaration with ordinal `k` makes. It is found in the bindings of the numbered tree, in
+-- which each name is its ordinal.
 abbrev pub declared_object : Tree Name module_text → ℕ → Option (Object Shape Signature)
 declared_object m k = object_bound (module_bindings as_labels (numbered m)) k
 
--- the type of a variable or parameter
+-- returns the type of a variable or parameter; None for any other object
 abbrev pub variable_of : {P : Type 0} → Option (Object Shape P) → Option Shape
 variable_of (Some (a_variable s)) = Some s
 variable_of _ = None

@@ -13,16 +13,16 @@ use Rattle.ob0_language_types.specs.Expressions.{Object}
 use Rattle.ob0_language_types.specs.WellTyped.{Signature, TypeEnvironment, TypedParameter, WellTyped, bind_typed, heading, typed_parameters}
 use Rattle.ob0_language_values.specs.Values.{Shape}
 
--- the statements of a body, and the environment in which they are checked
+-- the statements of a body, with the environment in which they are checked
 pub record BodyAt (N : Type 0) : Type 0 where
   pub environment : TypeEnvironment N
   pub statements : Tree N (maybe body)
 
--- the bodies of a block; the body of a block comes after the bodies of its procedures
+-- Returns the bodies of a block. The body of a block comes after the bodies of its procedures.
 unfoldable mutual
   unfolding typed_parameters
 
-  -- the bodies of a block's procedures, then its own; empty if a declaration has an error
+  -- returns the bodies of a block's procedures, then its own body; empty if a declaration has an error
   pub block_bodies : {N : Type 0}
       → Naming N
       → TypeEnvironment N
@@ -34,7 +34,7 @@ unfoldable mutual
       (λ inner. procedures_bodies naming inner
       (after_variables k (has_body (declares cs ts vs ps) statements)) statements ps)
 
-  -- the bodies of procedures in text order, then the body of their block
+  -- returns the bodies of procedures in text order, then the body of their block
   pub procedures_bodies : {N : Type 0}
       → Naming N
       → TypeEnvironment N
@@ -50,7 +50,7 @@ unfoldable mutual
       ++ procedures_bodies naming (heading (procedure_name p) ps env)
       (k + procedure_constructors p) statements rest)
 
-  -- the bodies of a procedure's block, in an environment with the procedure's name and parameters
+  -- returns the bodies of a procedure's block, in an environment with the procedure's name and parameters
   pub procedure_bodies : {N : Type 0}
       → Naming N
       → TypeEnvironment N
@@ -60,14 +60,14 @@ unfoldable mutual
   procedure_bodies naming env k (declares_procedure x fs b closing) =
       block_bodies naming env (k + formals_constructors (formal_sections fs)) b
 
--- the bodies of a module, each with its environment
+-- returns the bodies of a module, each with its environment
 abbrev pub module_bodies : {N : Type 0} → Naming N → Tree N module_text → List (BodyAt N)
 module_bodies naming m = block_bodies naming (outermost naming) 0 (module_block m)
 
--- states that Q holds of each environment in which procedures or statements of a block, or of a
--- block inside it, are checked
+-- Holds if `Q` holds for each environment in which procedures or statements of a block, or of a block within it, are
+-- checked.
 abbrev mutual
-  -- a block: Q holds after its constants, types and variables, and in its procedures
+  -- holds for a block if `Q` holds after its constants, types and variables, and in its procedures
   pub BlockHas : (TypeEnvironment Label → Type 0)
       → TypeEnvironment Label
       → ℕ
@@ -79,7 +79,7 @@ abbrev mutual
       → Q inner
       × ProceduresHave Q inner (after_variables k (has_body (declares cs ts vs ps) statements)) ps
 
-  -- procedures: Q holds inside each one, after the earlier ones, and after all of them
+  -- holds for procedures if `Q` holds within each one, after the earlier ones, and after all of them
   pub ProceduresHave : (TypeEnvironment Label → Type 0)
       → TypeEnvironment Label
       → ℕ
@@ -93,7 +93,7 @@ abbrev mutual
       × ProcedureHas Q (bind_typed ps (heading (procedure_name p) ps env)) k p
       × ProceduresHave Q (heading (procedure_name p) ps env) (k + procedure_constructors p) rest
 
-  -- Q holds in the block of a procedure
+  -- holds for a procedure if `Q` holds in its block
   pub ProcedureHas : (TypeEnvironment Label → Type 0)
       → TypeEnvironment Label
       → ℕ
@@ -102,8 +102,7 @@ abbrev mutual
   ProcedureHas Q env k (declares_procedure x fs b closing) =
       BlockHas Q env (k + formals_constructors (formal_sections fs)) b
 
--- if the statements of a well-typed module bind a name, they bind it to the object of its
--- declaration
+-- If the statements of a well-typed module bind a name, they bind it to the object of its declaration.
 abbrev pub NamesAreDeclared : Type 0
 NamesAreDeclared =
     (m : Tree Name module_text) → WellTyped m

@@ -1,5 +1,5 @@
--- The values of a module's constants. Only the names of constants matter for them; other names can
--- only hide these.
+-- The values of a module's constants. Only the names of constants matter for them; other names can only hide these
+-- names.
 -- Rule: docs/LANGUAGE.md, Types 6, 7.
 use Rattle.std.specs.Prelude.{None, Option, Some, if◌then◌else◌, map, nat_lt, option_and_then, suc, ℕ, ◌++◌, ◌==◌, ◌∷◌}
 use Rattle.ob0_tree.specs.Tree.{Tree, block, constant, declares, declares_constant, declares_procedure, end, has_body, item, items, module_text, more, procedure}
@@ -13,15 +13,15 @@ use Rattle.ob0_language_types.specs.Expressions.{Object, a_constant, a_procedure
 use Rattle.ob0_language_types.specs.Typing.{constant_value, ◌>>=◌}
 use Rattle.ob0_language_types.specs.WellTyped.{bind_names}
 
--- an environment that knows the values of constants and nothing about other names
+-- an environment that has the values of constants and nothing about other names
 abbrev pub Known : Type 0
 Known = Environment Name (Unit {0}) (Unit {0})
 
--- stands for any object that isn't a constant
+-- an object that stands for any object that isn't a constant
 abbrev pub no_constant : Object (Unit {0}) (Unit {0})
 no_constant = a_variable tt
 
--- an object reduced to the value of a constant; nothing is known about other objects
+-- reduces an object to the value of a constant; any other object becomes `no_constant`
 abbrev pub known_object : {V P : Type 0} → Object V P → Object (Unit {0}) (Unit {0})
 known_object (a_constant v) = a_constant v
 known_object (a_type s) = no_constant
@@ -29,12 +29,12 @@ known_object (a_variable p) = no_constant
 known_object (a_procedure p) = no_constant
 known_object (a_standard p) = no_constant
 
--- the predeclared names, of which only the constants have values
+-- the environment of the predeclared names, of which only the constants have values
 abbrev pub predeclared_known : Known
 predeclared_known =
     map (λ b. (b.0, known_object b.1)) (outermost {V = Unit {0}} {P = Unit {0}} as_names)
 
--- the value of the constant with ordinal d in a list of constants, the first of which has ordinal k
+-- returns the value of the constant with ordinal `d` in a list of constants; the first one has ordinal `k`
 unfoldable pub value_among : Known → ℕ → ℕ → Tree Name (items constant) → Option Value
 unfolding constant_value
 value_among known d k end = None
@@ -42,11 +42,11 @@ value_among known d k (more (declares_constant x e) cs) = do
   v ← constant_value (meanings as_names known) e
   if k == d then Some v else value_among ((x, a_constant v) ∷ known) d (suc k) cs
 
--- the value of the constant with ordinal d, or None if no CONST section declares d
+-- Returns the value of the constant with ordinal `d`, or None if no CONST section declares `d`.
 unfoldable mutual
   unfolding value_among declare_constants
 
-  -- in a block whose first declaration has ordinal k
+  -- returns the value of the constant with ordinal `d` in a block whose first declaration has ordinal `k`
   pub value_in_block : Known → ℕ → ℕ → Tree Name block → Option Value
   value_in_block known d k (has_body (declares cs ts vs ps) statements) =
       if nat_lt d (first_type k (has_body (declares cs ts vs ps) statements))
@@ -57,7 +57,8 @@ unfoldable mutual
       inner) d (first_procedure k (has_body (declares cs ts vs ps) statements)) ps)
       (declare_constants as_names known (section_constants cs))
 
-  -- in the procedure that declares d; the first procedure has ordinal k
+  -- returns the value of the constant with ordinal `d` in the procedure that declares it; the first procedure has
+  -- ordinal `k`
   pub value_in_procedures : Known → ℕ → ℕ → Tree Name (items procedure) → Option Value
   value_in_procedures known d k end = None
   value_in_procedures known d k (more p rest) =
@@ -66,14 +67,15 @@ unfoldable mutual
       else value_in_procedures ((procedure_name p, no_constant) ∷ known) d
       (after_procedure (suc k) p) rest
 
-  -- in a procedure's block; the ordinals of its parameters, which aren't constants, begin at k
+  -- returns the value of the constant with ordinal `d` in a procedure's block; the parameters, which aren't constants,
+  -- have ordinals starting at `k`
   pub value_in_procedure : Known → ℕ → ℕ → Tree Name (item procedure) → Option Value
   value_in_procedure known d k (declares_procedure x fs b closing) =
       if nat_lt d (after_names k (formal_names (formal_sections fs))) then None
       else value_in_block (bind_names (formal_names (formal_sections fs)) no_constant known) d
       (after_names k (formal_names (formal_sections fs))) b
 
--- the value of the constant with ordinal d, or None if no CONST section declares d
+-- returns the value of the constant with ordinal `d`, or None if no CONST section declares `d`
 unfoldable pub value_of_constant : Tree Name module_text → ℕ → Option Value
 unfolding value_in_block
 value_of_constant m d =

@@ -1,5 +1,5 @@
--- The bindings that declarations of constants and types make, in the checker and in a run alike,
--- and the numbering of types.
+-- The bindings that declarations of constants and types make, in the checker and in a run alike, and the ordinals of
+-- types.
 -- Rule: docs/LANGUAGE.md, Scopes 2, Types 1.
 use Rattle.std.specs.Prelude.{ℕ, ◌+◌, ◌∷◌, Some, Option}
 use Rattle.ob0_tree.specs.Tree.{Tree, block, constant, declares, declares_constant, declares_procedure, declares_type, declares_variable, end, further_section, has_body, item, items, more, procedure, then_section, type_name, variable}
@@ -9,7 +9,7 @@ use Rattle.ob0_language_types.specs.Environments.{Environment, meanings}
 use Rattle.ob0_language_types.specs.Expressions.{a_constant, a_type}
 use Rattle.ob0_language_types.specs.Typing.{constant_value, constructors, denoted, ◌>>=◌}
 
--- binds constants, each after its right side; None if a right side isn't a constant expression
+-- binds constants, each after its right side; None if a right side isn't a constant expression with a value
 unfoldable pub declare_constants : {N V P : Type 0}
     → Naming N
     → Environment N V P
@@ -21,7 +21,8 @@ declare_constants naming env (more (declares_constant x e) cs) = do
   v ← constant_value (meanings naming env) e
   declare_constants naming ((x, a_constant v) ∷ env) cs
 
--- binds types, each after its right side; k is the ordinal of the first ARRAY or RECORD
+-- Binds types, each after its right side. `k` is the ordinal of the first ARRAY or RECORD. Returns None if a right side
+-- denotes no type.
 unfoldable pub declare_types : {N V P : Type 0}
     → Naming N
     → Environment N V P
@@ -34,7 +35,7 @@ declare_types naming env k (more (declares_type x u) ds) = do
   s ← denoted (meanings naming env) k u
   declare_types naming ((x, a_type s) ∷ env) (k + constructors u) ds
 
--- binds a block's constants, then its types
+-- binds a block's constants, then its types; None if one of them has an error
 unfoldable pub declare_first : {N V P : Type 0}
     → Naming N
     → Environment N V P
@@ -46,49 +47,51 @@ declare_first naming env k b = do
   with_constants ← declare_constants naming env (block_constants b)
   declare_types naming with_constants k (block_types b)
 
--- the number of ARRAY and RECORD in a TYPE section
+-- returns the number of words ARRAY and RECORD in a TYPE section
 abbrev pub types_constructors : {N : Type 0} → Tree N (items type_name) → ℕ
 types_constructors end = 0
 types_constructors (more (declares_type x u) ds) = constructors u + types_constructors ds
 
--- the number of ARRAY and RECORD in a VAR section
+-- returns the number of words ARRAY and RECORD in a VAR section
 abbrev pub variables_constructors : {N : Type 0} → Tree N (items variable) → ℕ
 variables_constructors end = 0
 variables_constructors (more (declares_variable ns u) gs) =
     constructors u + variables_constructors gs
 
--- the number of ARRAY and RECORD in formal parameters
+-- returns the number of words ARRAY and RECORD in formal parameters
 abbrev pub formals_constructors : {N : Type 0} → Tree N (items further_section) → ℕ
 formals_constructors end = 0
 formals_constructors (more (then_section f) fs) =
     constructors (section_type f) + formals_constructors fs
 
--- the number of ARRAY and RECORD in a block, including its procedures
+-- Returns the number of words ARRAY and RECORD in a block, including its procedures.
 abbrev mutual
-  -- in a block: in its types, variables and procedures
+  -- returns the number of words ARRAY and RECORD in a block: in its types, variables and procedures
   pub block_constructors : {N : Type 0} → Tree N block → ℕ
   block_constructors (has_body (declares cs ts vs ps) statements) =
       types_constructors (section_types ts)
       + (variables_constructors (section_variables vs) + procedures_constructors ps)
 
-  -- in procedures
+  -- returns the number of words ARRAY and RECORD in procedures
   pub procedures_constructors : {N : Type 0} → Tree N (items procedure) → ℕ
   procedures_constructors end = 0
   procedures_constructors (more p rest) = procedure_constructors p + procedures_constructors rest
 
-  -- in a procedure: in its parameters and its block
+  -- returns the number of words ARRAY and RECORD in a procedure: in its parameters and its block
   pub procedure_constructors : {N : Type 0} → Tree N (item procedure) → ℕ
   procedure_constructors (declares_procedure x fs b closing) =
       formals_constructors (formal_sections fs) + block_constructors b
 
--- the ordinal of the first ARRAY or RECORD after a block's types
+-- returns the ordinal of the first ARRAY or RECORD after a block's types; `k` is the ordinal of the first in the block
 abbrev pub after_types : {N : Type 0} → ℕ → Tree N block → ℕ
 after_types k b = k + types_constructors (block_types b)
 
--- the ordinal of the first ARRAY or RECORD after a block's variables
+-- returns the ordinal of the first ARRAY or RECORD after a block's variables; `k` is the ordinal of the first in the
+-- block
 abbrev pub after_variables : {N : Type 0} → ℕ → Tree N block → ℕ
 after_variables k b = after_types k b + variables_constructors (block_variables b)
 
--- the ordinal of the first ARRAY or RECORD after a procedure's formal parameters
+-- returns the ordinal of the first ARRAY or RECORD after a procedure's formal parameters; `k` is the ordinal of the
+-- first in the procedure
 abbrev pub after_formals : {N : Type 0} → ℕ → Tree N (item procedure) → ℕ
 after_formals k p = k + formals_constructors (procedure_formals p)

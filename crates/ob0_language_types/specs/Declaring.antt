@@ -8,7 +8,7 @@ use Rattle.ob0_language_types.specs.Declarations.{after_types, declare_first}
 use Rattle.ob0_language_types.specs.Typing.{◌>>=◌}
 use Rattle.ob0_language_types.specs.WellTyped.{TypeEnvironment, bind_typed, declare_typed, heading, procedure_fits, typed_parameters}
 
--- the environment after a procedure, or None if the procedure isn't well-typed
+-- returns the environment after a procedure, or None if the procedure isn't well-typed
 unfoldable pub declare_procedure : {N : Type 0}
     → Naming N
     → TypeEnvironment N
@@ -22,7 +22,7 @@ declare_procedure naming env k p = do
       then Some (heading (procedure_name p) ps env)
       else None
 
--- the environment after a block's constants, types and variables, or None if one has an error
+-- returns the environment after a block's constants, types and variables, or None if one has an error
 abbrev pub declare_block : {N : Type 0}
     → Naming N
     → TypeEnvironment N

@@ -13,7 +13,7 @@ use Rattle.ob0_language_types.specs.ConstantValues.{value_of_constant}
 use Rattle.ob0_language_types.specs.WellTyped.{WellTyped}
 use Rattle.ob0_language_types.specs.Written.{written_value}
 
--- a well-typed module remains well-typed if a declaration is renamed to a free name
+-- A well-typed module remains well-typed if a declaration is renamed to a free name.
 abbrev pub FreeKeepsWellTyped : Type 0
 FreeKeepsWellTyped =
     (m : Tree Name module_text) (d : ℕ) (new : Name)
@@ -21,42 +21,40 @@ FreeKeepsWellTyped =
     → WellTyped m
     → WellTyped (renamed m d new)
 
--- states that a value is a 32-bit number or a truth value
+-- holds if a value is a 32-bit number or a truth value
 abbrev pub IsScalar : Value → Type 0
 IsScalar (number n) = IsTrue (fits n)
 IsScalar (truth b) = Unit {0}
 IsScalar (elements vs) = ⊥
 IsScalar (members k ms) = ⊥
 
--- states that, if the value is written as TRUE or FALSE in place of an occurrence, that word means
--- the predeclared constant there
+-- Holds if the word TRUE or FALSE, written in place of an occurrence, means the predeclared constant there. For any
+-- value that isn't a truth value it holds.
 abbrev pub IsPredeclaredTruth : Tree Name module_text → ℕ → Value → Type 0
 IsPredeclaredTruth m occurrence (truth true) = sees m occurrence (codes "TRUE") ≡ Some 2
 IsPredeclaredTruth m occurrence (truth false) = sees m occurrence (codes "FALSE") ≡ Some 3
 IsPredeclaredTruth m occurrence _ = Unit {0}
 
--- states that d is a constant of a CONST section with the value w, which is written as the factor v
+-- holds if `d` is a constant of a CONST section with the value `w`, which is written as the factor `v`
 pub record IsConstantWritten
     (m : Tree Name module_text) (d : ℕ) (w : Value) (v : Tree Name factor) : Type 0 where
   pub value : value_of_constant m d ≡ Some w
   pub scalar : IsScalar w
   pub literal : written_value w ≡ Some v
 
--- states that each use is bound to d, and that the word written in its place means the predeclared
--- constant
+-- holds if each use is bound to `d`, and the word written in its place means the predeclared constant
 pub record AreUsesOf (m : Tree Name module_text) (d : ℕ) (w : Value) (uses : Uses) : Type 0 where
   pub bound : (k : ℕ) → uses k ≡ true → binds m k ≡ Some d
   pub seen : (k : ℕ) → uses k ≡ true → IsPredeclaredTruth m k w
 
--- a well-typed module remains well-typed if a constant's literal replaces uses at which it has the
--- constant's value
+-- A well-typed module remains well-typed if uses of a constant are replaced by its literal. The literal must have the
+-- constant's value at each of these uses.
 abbrev pub InliningKeepsWellTyped : Type 0
 InliningKeepsWellTyped =
     (m : Tree Name module_text) (d : ℕ) (w : Value) (v : Tree Name factor) (uses : Uses)
     → IsConstantWritten m d w v → AreUsesOf m d w uses → WellTyped m → WellTyped (inlined m uses v)
 
--- a well-typed module remains well-typed without the declaration of a constant that no occurrence
--- is bound to
+-- A well-typed module remains well-typed without the declaration of a constant that no occurrence is bound to.
 abbrev pub LeavingOutKeepsWellTyped : Type 0
 LeavingOutKeepsWellTyped =
     (m : Tree Name module_text) (d : ℕ) (w : Value) (v : Tree Name factor)
@@ -65,8 +63,8 @@ LeavingOutKeepsWellTyped =
     → WellTyped m
     → WellTyped (module_without d m)
 
--- a well-typed module remains well-typed if a constant's literal replaces all its uses and its
--- declaration is removed; the literal must have the constant's value at each use
+-- A well-typed module remains well-typed if all uses of a constant are replaced by its literal and its declaration is
+-- removed. The literal must have the constant's value at each use.
 abbrev pub InliningEverywhereKeepsWellTyped : Type 0
 InliningEverywhereKeepsWellTyped =
     (m : Tree Name module_text) (d : ℕ) (w : Value) (v : Tree Name factor)
@@ -75,8 +73,8 @@ InliningEverywhereKeepsWellTyped =
     → WellTyped m
     → WellTyped (inlined_everywhere m d v)
 
--- in a well-typed module each use of a constant is a whole factor: it is no type, called procedure
--- or target of an assignment, and has no selectors
+-- In a well-typed module each use of a constant is a whole factor. The use is no type, called procedure or target of an
+-- assignment, and it has no selectors.
 abbrev pub ConstantsAreAlone : Type 0
 ConstantsAreAlone =
     (m : Tree Name module_text) (d : ℕ) (w : Value) (v : Tree Name factor)

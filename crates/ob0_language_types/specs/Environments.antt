@@ -1,31 +1,31 @@
--- Environments: the object that each visible name is bound to.
+-- Environments, which bind each visible name to an object.
 -- Rule: docs/LANGUAGE.md, Scopes 4.
 use Rattle.std.specs.Prelude.{true, false, List, [], ◌∷◌, Some, None, Option}
 use Rattle.ob0_language_names.specs.Names.{Naming}
 use Rattle.ob0_language_types.specs.Expressions.{Meanings, Object, a_constant, a_standard, a_type, reads, writes, writes_line}
 use Rattle.ob0_language_values.specs.Values.{boolean_shape, integer_shape, truth}
 
--- bindings of names to objects, newest first, the predeclared names last
+-- a list of bindings of names to objects, newest first, the predeclared names last
 abbrev pub Environment : Type 0 → Type 0 → Type 0 → Type 0
 Environment N V P = List (N × Object V P)
 
--- the rest of the list that begins with the first binding of a name; empty if nothing binds it
+-- returns the rest of an environment that begins with the first binding of a name; empty if nothing binds it
 abbrev pub from_binding : {N V P : Type 0} → Naming N → Environment N V P → N → Environment N V P
 from_binding naming [] x = []
 from_binding naming (b ∷ env) x =
     elim (naming.same x b.0) [ true ↦ b ∷ env | false ↦ from_binding naming env x ]
 
--- the object of the newest binding
+-- returns the object of the newest binding; None if there is no binding
 abbrev pub newest : {N V P : Type 0} → Environment N V P → Option (Object V P)
 newest [] = None
 newest (b ∷ env) = Some b.1
 
--- the meanings of names in an environment: each name means the object of its first binding
+-- returns the meanings of names in an environment: each name means the object of its first binding
 abbrev pub meanings : {N V P : Type 0} → Naming N → Environment N V P → Meanings N V P
 meanings naming env =
     record { object_for = λ x. newest (from_binding naming env x); written = naming.written }
 
--- the environment of the outermost block: INTEGER, BOOLEAN, TRUE, FALSE, Read, Write and WriteLn
+-- returns the environment of the outermost block: INTEGER, BOOLEAN, TRUE, FALSE, Read, Write and WriteLn
 abbrev pub outermost : {N V P : Type 0} → Naming N → Environment N V P
 outermost naming =
     (naming.predeclared 6, a_standard writes_line)

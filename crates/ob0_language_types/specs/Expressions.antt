@@ -1,5 +1,4 @@
--- The value of an expression, given the meanings of its names and a store. Evaluation changes
--- nothing.
+-- The value of an expression, given the meanings of its names and a store. Evaluation doesn't change the store.
 -- Rule: docs/LANGUAGE.md, Runs 2 to 4.
 use Rattle.std.specs.Prelude.{true, false, List, [], ◌∷◌, ◌++◌, pos, negsuc, if◌then◌else◌, nat_lt, Some, Option}
 use Rattle.ob0_tree.specs.Tree.{Tree, addend, adds, compares, designator, end, expression, factor, field, index, integer, items, more, multiplier, multiplies, negation, none, one, parenthesised, product, relates, selector, simple, sum, term}
@@ -10,7 +9,7 @@ use Rattle.ob0_language_values.specs.Values.{Index, Outcome, Place, Shape, Step,
 pub data Standard : Type 0 where
   reads writes writes_line : Standard
 
--- the meaning of a name; V describes a variable, and P a procedure
+-- the meaning of a name; `V` is the type of the facts about a variable, and `P` the type of the facts about a procedure
 pub data Object (V P : Type 0) : Type 0 where
   a_type : Shape → Object V P
   a_constant : Value → Object V P
@@ -18,33 +17,32 @@ pub data Object (V P : Type 0) : Type 0 where
   a_procedure : P → Object V P
   a_standard : Standard → Object V P
 
--- the meanings of names at a place, None for an unbound name; and how the name of a field is
--- written
+-- the meanings of names at a place (None for an unbound name), and the spelling of fields
 pub record Meanings (N V P : Type 0) : Type 0 where
   pub object_for : N → Option (Object V P)
   pub written : N → Name
 
--- the step to an element; an index below 0 or not below the length ends the run with Index
+-- Returns the step to an element of an array. An index below 0 or not below the length ends the run with Index.
 abbrev pub element_step : Value → Value → Outcome Step
 element_step (elements vs) (number (pos i)) =
     if nat_lt i (count_values vs) then gives (at_index i) else ends Index
 element_step (elements vs) (number (negsuc i)) = ends Index
 element_step _ _ = ends Stuck
 
--- the place that a variable's name means, without selectors
+-- returns the place that a variable's name means, without selectors; any other name is stuck
 abbrev pub object_place : {P : Type 0} → Option (Object Place P) → Outcome Place
 object_place (Some (a_variable p)) = gives p
 object_place _ = ends Stuck
 
--- the value of a constant, or of the variable at its place
+-- returns the value of a constant, or of the variable at its place; any other object is stuck
 abbrev pub object_value : {P : Type 0} → Store → Option (Object Place P) → Outcome Value
 object_value store (Some (a_constant v)) = gives v
 object_value store (Some (a_variable p)) = or_stuck (read_place store p)
 object_value store _ = ends Stuck
 
--- the value of an expression, evaluated from left to right
+-- Returns the value of an expression, which is evaluated from left to right.
 unfoldable mutual
-  -- an expression: one simple expression, or a relation between two
+  -- evaluates an expression: one simple expression, or a relation between two
   pub evaluate : {N P : Type 0} → Meanings N Place P → Store → Tree N expression → Outcome Value
   evaluate meaning store (compares a none) = evaluate_simple meaning store a
   evaluate meaning store (compares a (one (relates r b))) = do
@@ -52,14 +50,15 @@ unfoldable mutual
     y ← evaluate_simple meaning store b
     relate r x y
 
-  -- a simple expression: its first term with its sign, then the further terms
+  -- evaluates a simple expression: its first term with its sign, then the further terms
   pub evaluate_simple : {N P : Type 0} → Meanings N Place P → Store → Tree N simple → Outcome Value
   evaluate_simple meaning store (sum s t rest) = do
     x ← evaluate_term meaning store t
     y ← apply_sign s x
     evaluate_addends meaning store y rest
 
-  -- an operand, then the further terms; operators of one level group to the left
+  -- evaluates the further terms after an operand, from left to right; if the operand settles an OR, the next term isn't
+  -- evaluated
   pub evaluate_addends : {N P : Type 0}
       → Meanings N Place P
       → Store
@@ -72,13 +71,14 @@ unfoldable mutual
         [ true ↦ gives x | false ↦ evaluate_term meaning store t >>= add o x ]
     evaluate_addends meaning store y rest
 
-  -- a term: its first factor, then the further factors
+  -- evaluates a term: its first factor, then the further factors
   pub evaluate_term : {N P : Type 0} → Meanings N Place P → Store → Tree N term → Outcome Value
   evaluate_term meaning store (product f rest) = do
     x ← evaluate_factor meaning store f
     evaluate_multipliers meaning store x rest
 
-  -- an operand x, then the further factors; if x settles `&`, the next factor isn't evaluated
+  -- evaluates the further factors after an operand, from left to right; if the operand settles an `&`, the next factor
+  -- isn't evaluated
   pub evaluate_multipliers : {N P : Type 0}
       → Meanings N Place P
       → Store
@@ -91,7 +91,7 @@ unfoldable mutual
         [ true ↦ gives x | false ↦ evaluate_factor meaning store f >>= multiply o x ]
     evaluate_multipliers meaning store y rest
 
-  -- a factor: a designator, an integer, an expression in parentheses or a negation
+  -- evaluates a factor: a designator, an integer, an expression in parentheses or a negation
   pub evaluate_factor : {N P : Type 0} → Meanings N Place P → Store → Tree N factor → Outcome Value
   evaluate_factor meaning store (designator x path) = do
     v ← object_value store (meaning.object_for x)
@@ -101,7 +101,7 @@ unfoldable mutual
   evaluate_factor meaning store (parenthesised e) = evaluate meaning store e
   evaluate_factor meaning store (negation f) = evaluate_factor meaning store f >>= negate
 
-  -- the path into a value that selectors select
+  -- returns the path into a value that selectors select
   pub follow : {N P : Type 0}
       → Meanings N Place P
       → Store
@@ -120,7 +120,7 @@ unfoldable mutual
     steps ← follow meaning store w rest
     gives (s ∷ steps)
 
--- the place of a designator: its variable's place and the path of its selectors
+-- returns the place of a designator: its variable's place, extended by the path of its selectors
 unfoldable pub designate : {N P : Type 0}
     → Meanings N Place P
     → Store

@@ -11,14 +11,13 @@ use Rattle.ob0_language_values.specs.Values.{Place, Store, Value, gives}
 use Rattle.ob0_language_names.specs.DeclaredOnce.{declared_once}
 use Rattle.ob0_language_types.specs.WellTyped.{Mode, Typed, WellTyped, fits_over}
 
--- the type check by names accepts a module exactly if the check by ordinals accepts its numbered
--- tree
+-- The type check by names accepts a module exactly if the check by ordinals accepts its numbered tree.
 abbrev pub FitsByOrdinal : Type 0
 FitsByOrdinal =
     (m : Tree Name module_text) → fits_over as_names m ≡ fits_over as_labels (numbered m)
 
--- two modules with the same numbered tree are both well-typed or neither is, if each declares every
--- name once and its closing names are right
+-- Two modules with the same numbered tree are both well-typed or neither is, if each declares every name once and its
+-- closing names are right.
 abbrev pub WellTypedByShape : Type 0
 WellTypedByShape =
     (a b : Tree Name module_text)
@@ -27,8 +26,7 @@ WellTypedByShape =
     → IsTrue (declared_once b)
     → WellTyped a ↔ WellTyped b
 
--- a constant expression has the same value in a run as in the checker, if the names mean the same
--- constants in both
+-- A constant expression has the same value in a run as in the checker, if the names mean the same constants in both.
 abbrev pub ConstantsEvaluate : Type 0
 ConstantsEvaluate =
     (checked : Typed Name) (active : Meanings Name Place (List Mode)) (store : Store)
@@ -39,13 +37,12 @@ ConstantsEvaluate =
     → constant_of (active.object_for x) ≡ Some w)
     → constant_value checked e ≡ Some v → evaluate active store e ≡ gives v
 
--- states that P holds of each use in a list of occurrences, the first of which has number k
+-- holds if `P` holds for each use in a list of occurrences, the first of which has number `k`
 abbrev pub UsesAre : Uses → (Name → Type 0) → ℕ → List Name → Type 0
 UsesAre uses P k [] = Unit {0}
 UsesAre uses P k (x ∷ xs) = (uses k ≡ true → P x) × UsesAre uses P (suc k) xs
 
--- an expression's evaluation is unchanged if a factor with the constant's value replaces uses of a
--- constant
+-- Replacing uses of a constant by a factor with the constant's value leaves an expression's evaluation unchanged.
 abbrev pub InliningKeepsEvaluation : Type 0
 InliningKeepsEvaluation =
     (meaning : Meanings Name Place (List Mode)) (store : Store) (uses : Uses) (v : Tree Name factor)
@@ -54,8 +51,7 @@ InliningKeepsEvaluation =
     → UsesAre uses (λ x. meaning.object_for x ≡ Some (a_constant w)) k (occurrences e)
     → evaluate meaning store (inline_in uses v k e) ≡ evaluate meaning store e
 
--- an expression's type is unchanged if a factor with the constant's type replaces uses of a
--- constant
+-- Replacing uses of a constant by a factor with the constant's type leaves an expression's type unchanged.
 abbrev pub InliningKeepsTypes : Type 0
 InliningKeepsTypes =
     (checked : Typed Name) (uses : Uses) (v : Tree Name factor) (w : Value) (k : ℕ)

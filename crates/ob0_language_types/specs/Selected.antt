@@ -1,14 +1,14 @@
--- Steps of chains: the selectors of a designator, and an operation on two optional operands.
+-- The selectors of a designator, and operations on two optional operands.
 -- Rule: none; for contracts: steps of chains.
 use Rattle.std.specs.Prelude.{ℕ, Option, option_and_then}
 use Rattle.ob0_tree.specs.Tree.{Tree, items, selector}
 use Rattle.ob0_tree.specs.View.{items_of, selector_of}
 use Rattle.ob0_tree.specs.declared.tree.Designator.{Designator, out-Designator}
 
--- the selectors of a designator
+-- returns the selectors of a designator
 abbrev pub selectors_in : Designator → Tree ℕ (items selector)
 selectors_in d = items_of selector_of (out-Designator d).selectors.items
 
--- an operation on two optional operands; None if one is missing
+-- applies an operation to two optional operands; None if one is missing
 abbrev pub both : {A B C : Type 0} → (A → B → Option C) → Option A → Option B → Option C
 both operation a b = option_and_then (λ x. option_and_then (operation x) b) a

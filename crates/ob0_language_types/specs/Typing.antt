@@ -1,5 +1,4 @@
--- Types: the type that a type's text denotes, the types of expressions, and the values of constant
--- expressions.
+-- The types that texts of types denote, the types of expressions, and the values of constant expressions.
 -- Rule: docs/LANGUAGE.md, Types 1 to 7, Nesting and limits 2.
 use Rattle.std.specs.Prelude.{ℕ, suc, ◌+◌, ◌*◌, max, ◌&&◌, List, [], ◌∷◌, map, pos, if◌then◌else◌, nat_lt, nat_le, Some, None, Option, option_map, option_and_then}
 use Rattle.ob0_tree.specs.declared.tree.Relation.{Relation}
@@ -16,20 +15,20 @@ use Rattle.ob0_language_names.specs.Parts.{names_listed}
 use Rattle.ob0_language_types.specs.Expressions.{Meanings, Object, a_constant, a_type, a_variable, evaluate}
 use Rattle.ob0_language_values.specs.Values.{FieldShapes, Outcome, Shape, Value, array_shape, boolean_shape, ends, gives, integer_shape, next_field_shape, no_field_shape, number, record_shape, truth}
 
--- one step after another, if both give a result
-infixl 20 ◌>>=◌
 -- one step after another; None if one of them gives nothing
+infixl 20 ◌>>=◌
+-- runs one step after another; None if one of them gives nothing
 abbrev pub ◌>>=◌ : {A B : Type 0} → Option A → (A → Option B) → Option B
 ◌>>=◌ o next = option_and_then next o
 
--- the type of `+`, `-` and OR; both sides must be INTEGER, or for OR BOOLEAN
+-- returns the type of `+`, `-` and OR; both operands must be INTEGER, or for OR BOOLEAN
 abbrev pub add_type : AddOperator → Shape → Shape → Option Shape
 add_type add_operator.Add integer_shape integer_shape = Some integer_shape
 add_type add_operator.Subtract integer_shape integer_shape = Some integer_shape
 add_type add_operator.Or boolean_shape boolean_shape = Some boolean_shape
 add_type _ _ _ = None
 
--- the type of `*`, DIV, MOD and `&`; both sides must be INTEGER, or for `&` BOOLEAN
+-- returns the type of `*`, DIV, MOD and `&`; both operands must be INTEGER, or for `&` BOOLEAN
 abbrev pub multiply_type : MultiplyOperator → Shape → Shape → Option Shape
 multiply_type multiply_operator.Multiply integer_shape integer_shape = Some integer_shape
 multiply_type multiply_operator.Divide integer_shape integer_shape = Some integer_shape
@@ -37,56 +36,56 @@ multiply_type multiply_operator.Modulo integer_shape integer_shape = Some intege
 multiply_type multiply_operator.And boolean_shape boolean_shape = Some boolean_shape
 multiply_type _ _ _ = None
 
--- the type of a relation; `=` and `#` compare two INTEGER or two BOOLEAN, the others two INTEGER
+-- returns the type of a relation; `=` and `#` compare two INTEGER or two BOOLEAN, the others two INTEGER
 abbrev pub relation_type : Relation → Shape → Shape → Option Shape
 relation_type r integer_shape integer_shape = Some boolean_shape
 relation_type relation.Equal boolean_shape boolean_shape = Some boolean_shape
 relation_type relation.NotEqual boolean_shape boolean_shape = Some boolean_shape
 relation_type _ _ _ = None
 
--- the type of an operand with an optional sign; a sign requires INTEGER
+-- returns the type of an operand with an optional sign; a sign requires INTEGER
 abbrev pub sign_type : Option Sign → Shape → Option Shape
 sign_type None s = Some s
 sign_type (Some sign.Plus) integer_shape = Some integer_shape
 sign_type (Some sign.Minus) integer_shape = Some integer_shape
 sign_type _ _ = None
 
--- the type of `~`, which requires BOOLEAN
+-- returns the type of `~`, which requires BOOLEAN
 abbrev pub complement_type : Shape → Option Shape
 complement_type boolean_shape = Some boolean_shape
 complement_type _ = None
 
--- the type of a constant's value, INTEGER or BOOLEAN (rule 7)
+-- returns the type of a constant's value, INTEGER or BOOLEAN (rule 7)
 abbrev pub value_type : Value → Option Shape
 value_type (number n) = Some integer_shape
 value_type (truth b) = Some boolean_shape
 value_type _ = None
 
--- the type of a variable, a parameter or a constant
+-- returns the type of a variable, a parameter or a constant; None for any other object
 abbrev pub object_type : {P : Type 0} → Option (Object Shape P) → Option Shape
 object_type (Some (a_variable s)) = Some s
 object_type (Some (a_constant v)) = value_type v
 object_type _ = None
 
--- the type of an array's element; the index must be INTEGER
+-- returns the type of an array's element; None unless there are an array and an INTEGER index
 abbrev pub element_type : Shape → Shape → Option Shape
 element_type (array_shape k n s) integer_shape = Some s
 element_type _ _ = None
 
--- the type of the first field with this name
+-- returns the type of the first field with this name; None if there is none
 abbrev pub shape_of_field : FieldShapes → Name → Option Shape
 shape_of_field no_field_shape x = None
 shape_of_field (next_field_shape y s rest) x =
     if same_name x y then Some s else shape_of_field rest x
 
--- the type of a record's field
+-- returns the type of a record's field; None if there is no record or no such field
 abbrev pub field_type : Shape → Name → Option Shape
 field_type (record_shape k fs) x = shape_of_field fs x
 field_type _ x = None
 
--- the type of an expression, or None if it has an error
+-- Returns the type of an expression, or None if it has an error.
 unfoldable mutual
-  -- an expression: one simple expression, or a relation between two
+  -- returns the type of an expression: of one simple expression, or of a relation between two
   pub type_of : {N P : Type 0} → Meanings N Shape P → Tree N expression → Option Shape
   type_of meaning (compares a none) = type_of_simple meaning a
   type_of meaning (compares a (one (relates r b))) = do
@@ -94,14 +93,14 @@ unfoldable mutual
     y ← type_of_simple meaning b
     relation_type r x y
 
-  -- a simple expression: its first term with its sign, then the further terms
+  -- returns the type of a simple expression: its first term with its sign, then the further terms
   pub type_of_simple : {N P : Type 0} → Meanings N Shape P → Tree N simple → Option Shape
   type_of_simple meaning (sum s t rest) = do
     x ← type_of_term meaning t
     y ← sign_type s x
     type_of_addends meaning y rest
 
-  -- an operand of type x, then the further terms
+  -- returns the type after further terms, which follow an operand of type `x`
   pub type_of_addends : {N P : Type 0}
       → Meanings N Shape P
       → Shape
@@ -113,13 +112,13 @@ unfoldable mutual
     z ← add_type o x y
     type_of_addends meaning z rest
 
-  -- a term: its first factor, then the further factors
+  -- returns the type of a term: its first factor, then the further factors
   pub type_of_term : {N P : Type 0} → Meanings N Shape P → Tree N term → Option Shape
   type_of_term meaning (product f rest) = do
     x ← type_of_factor meaning f
     type_of_multipliers meaning x rest
 
-  -- an operand of type x, then the further factors
+  -- returns the type after further factors, which follow an operand of type `x`
   pub type_of_multipliers : {N P : Type 0}
       → Meanings N Shape P
       → Shape
@@ -131,7 +130,7 @@ unfoldable mutual
     z ← multiply_type o x y
     type_of_multipliers meaning z rest
 
-  -- a factor: a designator, an integer, an expression in parentheses or a negation
+  -- returns the type of a factor: a designator, an integer, an expression in parentheses or a negation
   pub type_of_factor : {N P : Type 0} → Meanings N Shape P → Tree N factor → Option Shape
   type_of_factor meaning (designator x path) = do
     s ← object_type (meaning.object_for x)
@@ -140,7 +139,7 @@ unfoldable mutual
   type_of_factor meaning (parenthesised e) = type_of meaning e
   type_of_factor meaning (negation f) = type_of_factor meaning f >>= complement_type
 
-  -- the type of the part that selectors select
+  -- returns the type of the part that selectors select from a value of type `s`
   pub type_at : {N P : Type 0} → Meanings N Shape P → Shape → Tree N (items selector) → Option Shape
   type_at meaning s end = Some s
   type_at meaning s (more (field x) rest) = do
@@ -151,12 +150,12 @@ unfoldable mutual
     t ← element_type s i
     type_at meaning t rest
 
--- the value of a name that means a constant; in a constant expression, other names have no value
+-- returns the value of a name that means a constant; None for any other name
 abbrev pub constant_of : {V P : Type 0} → Option (Object V P) → Option Value
 constant_of (Some (a_constant v)) = Some v
 constant_of _ = None
 
--- only the constants among the meanings, as in constant expressions (rule 6)
+-- keeps only the constants among the meanings, as in constant expressions (rule 6)
 abbrev pub constants_only : {N V P W Q : Type 0} → Meanings N V P → Meanings N W Q
 constants_only meaning =
     record {
@@ -165,84 +164,86 @@ constants_only meaning =
       written = meaning.written;
     }
 
--- the value that an evaluation gives, or None if it ends the run
+-- returns the value that an evaluation gives, or None if it ends the run
 abbrev pub given_value : Outcome Value → Option Value
 given_value (gives v) = Some v
 given_value (ends e) = None
 
--- the value of a constant expression: it must have a type, and its evaluation, which knows only
--- constants, must not end with a fault
+-- Returns the value of a constant expression. The expression must have a type, and its evaluation, in which only
+-- constants have meanings, must not end with a fault. Otherwise returns None.
 unfoldable pub constant_value : {N V P : Type 0} → Meanings N V P → Tree N expression → Option Value
 unfolding type_of evaluate
 constant_value meaning e = do
   s ← type_of {P = Unit {0}} (constants_only meaning) e
   given_value (evaluate {P = Unit {0}} (constants_only meaning) [] e)
 
--- the greatest number of scalars in a type, and of elements in an array
+-- the greatest number of scalars in a type, which is also the greatest number of elements in an array
 abbrev pub max_scalars : ℕ
 max_scalars = 65536
 
--- the greatest number of arrays and records inside one another
+-- the greatest depth to which arrays and records may be nested
 abbrev pub max_depth : ℕ
 max_depth = 100
 
--- the length of an array, which is 1 to 65,536
+-- returns the length of an array, which is from 1 to 65,536; None for any other value
 abbrev pub array_length : Value → Option ℕ
 array_length (number (pos (suc n))) = if nat_lt n max_scalars then Some (suc n) else None
 array_length _ = None
 
--- the number of scalars in a type; an empty record counts as one
+-- Returns the number of scalars in a type. An empty record counts as one.
 abbrev mutual
-  -- an array has the scalars of all its elements, a record the scalars of its fields, at least one
+  -- returns the number of scalars in a type; an array has the scalars of all its elements, a record the scalars of its
+  -- fields, at least one
   pub scalars : Shape → ℕ
   scalars integer_shape = 1
   scalars boolean_shape = 1
   scalars (array_shape k n s) = n * scalars s
   scalars (record_shape k fs) = max 1 (field_scalars fs)
 
-  -- the scalars of several fields together
+  -- returns the number of scalars in several fields together
   pub field_scalars : FieldShapes → ℕ
   field_scalars no_field_shape = 0
   field_scalars (next_field_shape x s rest) = scalars s + field_scalars rest
 
--- the number of arrays and records inside one another, following named types
+-- Returns the depth to which arrays and records are nested in a type. Arrays and records that named types denote also
+-- count.
 abbrev mutual
-  -- an array or a record is one level deeper than its deepest part
+  -- returns the depth of a type; an array or a record is one level deeper than its deepest part
   pub depth : Shape → ℕ
   depth integer_shape = 0
   depth boolean_shape = 0
   depth (array_shape k n s) = suc (depth s)
   depth (record_shape k fs) = suc (field_depth fs)
 
-  -- the depth of the deepest of some fields
+  -- returns the depth of the deepest of several fields
   pub field_depth : FieldShapes → ℕ
   field_depth no_field_shape = 0
   field_depth (next_field_shape x s rest) = max (depth s) (field_depth rest)
 
--- a type, if it has at most 65,536 scalars and at most 100 arrays and records inside one another
+-- returns the type if it has at most 65,536 scalars and is nested at most 100 deep, otherwise None
 abbrev pub within_limits : Shape → Option Shape
 within_limits s =
     if nat_le (scalars s) max_scalars && nat_le (depth s) max_depth then Some s else None
 
--- the number of ARRAY and RECORD in a type's text
+-- Returns the number of words ARRAY and RECORD in a type's text.
 abbrev mutual
-  -- in a type; a name counts 0, even if it means an array or a record
+  -- returns the number of words ARRAY and RECORD in a type; a name counts 0, even if it means an array or a record
   pub constructors : {N : Type 0} → Tree N written_type → ℕ
   constructors (named_type x) = 0
   constructors (array_type e t) = suc (constructors t)
   constructors (record_type g rest) = suc (group_constructors g + groups_constructors rest)
 
-  -- in a group of fields, whose type is written once for all its names
+  -- returns the number of words ARRAY and RECORD in a group of fields, whose type is written once for all its names
   pub group_constructors : {N : Type 0} → Tree N fields → ℕ
   group_constructors no_fields = 0
   group_constructors (some_fields ns t) = constructors t
 
-  -- in further groups of fields
+  -- returns the number of words ARRAY and RECORD in further groups of fields
   pub groups_constructors : {N : Type 0} → Tree N (items further_fields) → ℕ
   groups_constructors end = 0
   groups_constructors (more (then_fields g) rest) = group_constructors g + groups_constructors rest
 
--- the type that the name of a type means
+-- returns the type that the name of a type means; None for any other object
 abbrev pub type_of_name : {V P : Type 0} → Option (Object V P) → Option Shape
 type_of_name (Some (a_type s)) = Some s
 type_of_name _ = None
@@ -252,12 +253,13 @@ abbrev pub with_fields : List Name → Shape → FieldShapes → FieldShapes
 with_fields [] s rest = rest
 with_fields (x ∷ xs) s rest = next_field_shape x s (with_fields xs s rest)
 
--- the type that a type's text denotes; each ARRAY and RECORD makes a new type, and k is the ordinal
--- of the first one
+-- Returns the type that a type's text denotes. Each word ARRAY and RECORD makes a new type, and `k` is the ordinal of
+-- the first one.
 unfoldable mutual
   unfolding constant_value
 
-  -- a type: the meaning of a name, or an array or a record of ordinal k that is within the limits
+  -- returns the type that a text denotes: a name's type, or an array or a record within the limits, whose word has
+  -- ordinal `k`
   pub denoted : {N V P : Type 0} → Meanings N V P → ℕ → Tree N written_type → Option Shape
   denoted meaning k (named_type x) = type_of_name (meaning.object_for x)
   denoted meaning k (array_type e t) = do
@@ -270,7 +272,7 @@ unfoldable mutual
     fs ← denoted_group meaning (suc k) later g
     within_limits (record_shape k fs)
 
-  -- the fields of a group, then the following fields
+  -- returns the fields of a group, followed by the later fields
   pub denoted_group : {N V P : Type 0}
       → Meanings N V P
       → ℕ
@@ -282,7 +284,7 @@ unfoldable mutual
     s ← denoted meaning k t
     Some (with_fields (map meaning.written (names_listed ns)) s later)
 
-  -- the fields of further groups, in text order
+  -- returns the fields of further groups, in text order
   pub denoted_groups : {N V P : Type 0}
       → Meanings N V P
       → ℕ
@@ -293,12 +295,12 @@ unfoldable mutual
     later ← denoted_groups meaning (k + group_constructors g) rest
     denoted_group meaning k later g
 
--- the designator of an expression that is only a designator, without sign or parentheses
+-- returns the designator of an expression that is only a designator, without sign or parentheses; otherwise None
 abbrev pub lone_designator : {N : Type 0} → Tree N expression → Option (N × Tree N (items selector))
 lone_designator (compares (sum None (product (designator x path) end) end) none) = Some (x, path)
 lone_designator _ = None
 
--- the type of a type's name, a variable, a parameter or a constant; a procedure has none
+-- returns the type of a type's name, a variable, a parameter or a constant; None for a procedure
 abbrev pub type_declared : {P : Type 0} → Option (Object Shape P) → Option Shape
 type_declared (Some (a_type s)) = Some s
 type_declared (Some (a_variable s)) = Some s

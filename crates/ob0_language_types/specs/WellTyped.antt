@@ -12,10 +12,10 @@ use Rattle.ob0_language_types.specs.Expressions.{Meanings, Object, a_procedure, 
 use Rattle.ob0_language_types.specs.Typing.{constructors, denoted, lone_designator, type_at, type_of, ◌>>=◌}
 use Rattle.ob0_language_values.specs.Values.{FieldShapes, Shape, array_shape, boolean_shape, integer_shape, next_field_shape, no_field_shape, record_shape}
 
--- true if two types are equal
+-- Returns true if two types are equal.
 abbrev mutual
-  -- two types: the same scalar type, or both from the same ARRAY or RECORD of the text, with equal
-  -- parts
+  -- returns true if both are the same scalar type, or both come from the same ARRAY or RECORD of the text and have
+  -- equal parts
   pub same_shape : Shape → Shape → Bool
   same_shape integer_shape integer_shape = true
   same_shape boolean_shape boolean_shape = true
@@ -23,28 +23,28 @@ abbrev mutual
   same_shape (record_shape k fs) (record_shape j gs) = (k == j) && same_fields fs gs
   same_shape _ _ = false
 
-  -- two lists of fields with the same names and types, in the same order
+  -- returns true if two lists of fields have the same names and types, in the same order
   pub same_fields : FieldShapes → FieldShapes → Bool
   same_fields no_field_shape no_field_shape = true
   same_fields (next_field_shape x s rest) (next_field_shape y t others) =
       same_name x y && (same_shape s t && same_fields rest others)
   same_fields _ _ = false
 
--- the way to pass an argument: by its place for a VAR parameter, otherwise by its value
+-- the mode in which an argument is passed: by its place for a VAR parameter, otherwise by its value
 pub data Mode : Type 0 where
   by_value by_place : Mode
 
--- the mode of a section of parameters: by place if it begins with VAR
+-- returns the mode of a section of parameters: by place if it begins with VAR
 abbrev pub section_mode : {N : Type 0} → Tree N section → Mode
 section_mode (value_section ns t) = by_value
 section_mode (variable_section ns t) = by_place
 
--- a formal parameter: how it is passed, and its type
+-- a formal parameter: its mode and its type
 pub record Formal : Type 0 where
   pub mode : Mode
   pub shape : Shape
 
--- the parameters of a procedure
+-- the modes and types of a procedure's parameters
 abbrev pub Signature : Type 0
 Signature = List Formal
 
@@ -56,13 +56,13 @@ Typed N = Meanings N Shape Signature
 abbrev pub TypeEnvironment : Type 0 → Type 0
 TypeEnvironment N = Environment N Shape Signature
 
--- true if both types exist and are the same
+-- returns true if both types exist and are equal
 abbrev pub agree : Option Shape → Option Shape → Bool
 agree (Some s) (Some t) = same_shape s t
 agree _ _ = false
 
--- the type of a variable or parameter with its selectors, which may be assigned to or passed as
--- VAR; None for any other expression
+-- Returns the type of a variable or parameter with its selectors, which may be assigned to or passed as VAR. Returns
+-- None for any other expression.
 unfoldable pub variable_type : {N P : Type 0}
     → Meanings N Shape P
     → Option (N × Tree N (items selector))
@@ -72,7 +72,7 @@ variable_type meaning None = None
 variable_type meaning (Some (x, path)) =
     elim (meaning.object_for x) [ Some (a_variable s) ↦ type_at meaning s path | _ ↦ None ]
 
--- the signature of the procedure that a name means, or None if it means something else
+-- returns the signature of the procedure that a name means; None if it means something else
 abbrev pub signature_of : Option (Object Shape Signature) → Option Signature
 signature_of (Some (a_procedure signature)) = Some signature
 signature_of (Some (a_standard reads)) =
@@ -82,8 +82,8 @@ signature_of (Some (a_standard writes)) =
 signature_of (Some (a_standard writes_line)) = Some []
 signature_of _ = None
 
--- true if an argument has its parameter's type, and, for a VAR parameter, is a variable or
--- parameter with its selectors, without parentheses
+-- Returns true if an argument has its parameter's type. For a VAR parameter it must also be a variable or parameter
+-- with its selectors, without parentheses.
 unfoldable pub argument_fits : {N P : Type 0}
     → Meanings N Shape P
     → Formal
@@ -94,7 +94,7 @@ argument_fits meaning f e =
     agree (Some f.shape) (elim f.mode
     [ by_value ↦ type_of meaning e | by_place ↦ variable_type meaning (lone_designator e) ])
 
--- true if there are as many arguments as parameters, and each argument fits (rules 2 and 5)
+-- returns true if there are as many arguments as parameters, and each argument fits (rules 2 and 5)
 unfoldable pub arguments_fit : {N P : Type 0}
     → Meanings N Shape P
     → Signature
@@ -105,7 +105,7 @@ arguments_fit meaning [] [] = true
 arguments_fit meaning (f ∷ fs) (e ∷ es) = argument_fits meaning f e && arguments_fit meaning fs es
 arguments_fit meaning _ _ = false
 
--- true if a call calls a procedure and its arguments fit
+-- returns true if the name of a call means a procedure and the arguments fit
 unfoldable pub call_fits : {N P : Type 0}
     → Meanings N Shape P
     → Option Signature
@@ -115,17 +115,17 @@ unfolding arguments_fit
 call_fits meaning None es = false
 call_fits meaning (Some signature) es = arguments_fit meaning signature es
 
--- true if a condition is BOOLEAN
+-- returns true if a condition is BOOLEAN
 unfoldable pub condition_fits : {N P : Type 0} → Meanings N Shape P → Tree N expression → Bool
 unfolding type_of
 condition_fits meaning e = agree (Some boolean_shape) (type_of meaning e)
 
--- true if a statement is well-typed: both sides of an assignment have one type, the arguments of a
--- call fit, and conditions are BOOLEAN
+-- Returns true if a statement is well-typed: both sides of an assignment have one type, the arguments of a call fit,
+-- and conditions are BOOLEAN.
 unfoldable mutual
   unfolding condition_fits call_fits
 
-  -- a statement and the statements in it
+  -- returns true if a statement and the statements in it are well-typed
   pub statement_fits : {N : Type 0} → Typed N → Tree N statement → Bool
   statement_fits meaning empty = true
   statement_fits meaning (assigns x path e) =
@@ -140,23 +140,23 @@ unfoldable mutual
   statement_fits meaning (repeat_loop statements e) =
       sequence_fits meaning statements && condition_fits meaning e
 
-  -- each statement of a sequence
+  -- returns true if each statement of a sequence is well-typed
   pub sequence_fits : {N : Type 0} → Typed N → Tree N sequence → Bool
   sequence_fits meaning (runs a rest) = statement_fits meaning a && statements_fit meaning rest
 
-  -- the statements after the first one
+  -- returns true if each statement after the first one is well-typed
   pub statements_fit : {N : Type 0} → Typed N → Tree N (items further_statement) → Bool
   statements_fit meaning end = true
   statements_fit meaning (more (then_statement a) rest) =
       statement_fits meaning a && statements_fit meaning rest
 
-  -- the condition and the statements of each ELSIF part
+  -- returns true if the condition and the statements of each ELSIF part are well-typed
   pub elsifs_fit : {N : Type 0} → Typed N → Tree N (items elsif_part) → Bool
   elsifs_fit meaning end = true
   elsifs_fit meaning (more (elsif_branch e statements) rest) =
       condition_fits meaning e && (sequence_fits meaning statements && elsifs_fit meaning rest)
 
-  -- the statements of the ELSE part, if there is one
+  -- returns true if the statements of the ELSE part, if there is one, are well-typed
   pub else_fits : {N : Type 0} → Typed N → Tree N (maybe else_part) → Bool
   else_fits meaning none = true
   else_fits meaning (one (else_branch statements)) = sequence_fits meaning statements
@@ -170,7 +170,7 @@ abbrev pub bind_names : {N V P : Type 0}
 bind_names [] o env = env
 bind_names (x ∷ xs) o env = bind_names xs o ((x, o) ∷ env)
 
--- binds variables, each group after its type
+-- binds variables, each group after its type; None if a type has an error
 unfoldable pub declare_typed : {N : Type 0}
     → Naming N
     → ℕ
@@ -183,12 +183,13 @@ declare_typed naming k (more (declares_variable ns u) gs) env = do
   s ← denoted (meanings naming env) k u
   declare_typed naming (k + constructors u) gs (bind_names (names_listed ns) (a_variable s) env)
 
--- a parameter with its name, mode and type
+-- a formal parameter with its name
 pub record TypedParameter (N : Type 0) : Type 0 where
   pub name : N
   pub formal : Formal
 
--- the parameters of a heading; each is visible after its type, and the procedure isn't visible yet
+-- Returns the parameters of a heading. Each section of parameters is visible after its type, and the procedure isn't
+-- visible yet. Returns None if a type has an error.
 unfoldable pub typed_parameters : {N : Type 0}
     → Naming N
     → TypeEnvironment N
@@ -221,23 +222,23 @@ abbrev pub heading : {N : Type 0}
     → TypeEnvironment N
 heading x ps env = (x, a_procedure (map (λ p. p.formal) ps)) ∷ env
 
--- true if the statements of a body are well-typed
+-- returns true if the statements of a body are well-typed
 unfoldable pub body_fits : {N : Type 0} → Naming N → TypeEnvironment N → Tree N (maybe body) → Bool
 unfolding statement_fits
 body_fits naming env none = true
 body_fits naming env (one (begins statements)) = sequence_fits (meanings naming env) statements
 
--- true if a value exists and passes a test
+-- returns true if a value exists and passes a test
 abbrev pub some_and : {A : Type 0} → Option A → (A → Bool) → Bool
 some_and None test = false
 some_and (Some a) test = test a
 
--- true if a block is well-typed: its declarations, then each procedure in the environment of the
--- earlier ones, then its statements in the whole environment
+-- Returns true if a block is well-typed: its declarations, then each procedure in the environment of the earlier ones,
+-- then its statements in the whole environment.
 unfoldable mutual
   unfolding declare_first declare_typed typed_parameters body_fits
 
-  -- a block; k is the ordinal of its first ARRAY or RECORD
+  -- returns true if a block is well-typed; `k` is the ordinal of its first ARRAY or RECORD
   pub block_fits : {N : Type 0} → Naming N → TypeEnvironment N → ℕ → Tree N block → Bool
   block_fits naming env k (has_body (declares cs ts vs ps) statements) =
       some_and (do
@@ -247,7 +248,8 @@ unfoldable mutual
       (λ inner. procedures_fit naming inner
       (after_variables k (has_body (declares cs ts vs ps) statements)) statements ps)
 
-  -- each procedure in the environment of the earlier ones, then the statements of the block
+  -- returns true if each procedure is well-typed in the environment of the earlier ones, and then the statements of the
+  -- block are
   pub procedures_fit : {N : Type 0}
       → Naming N
       → TypeEnvironment N
@@ -262,7 +264,7 @@ unfoldable mutual
       && procedures_fit naming (heading (procedure_name p) ps env) (k + procedure_constructors p)
       statements rest)
 
-  -- a procedure's block, in an environment with the procedure's name and parameters
+  -- returns true if a procedure's block is well-typed, in an environment with the procedure's name and parameters
   pub procedure_fits : {N : Type 0}
       → Naming N
       → TypeEnvironment N
@@ -272,12 +274,12 @@ unfoldable mutual
   procedure_fits naming env k (declares_procedure x fs b closing) =
       block_fits naming env (k + formals_constructors (formal_sections fs)) b
 
--- true if a module is well-typed, apart from names that are declared twice and wrong closing names
+-- returns true if a module is well-typed, apart from names that are declared twice and wrong closing names
 unfoldable pub fits_over : {N : Type 0} → Naming N → Tree N module_text → Bool
 unfolding block_fits
 fits_over naming m = block_fits naming (outermost naming) 0 (module_block m)
 
--- states that a module is well-typed
+-- holds if a module is well-typed
 unfoldable pub WellTyped : Tree Name module_text → Type 0
 unfolding fits_over
 WellTyped m = IsTrue (declared_once m) × IsTrue (fits_over as_names m)

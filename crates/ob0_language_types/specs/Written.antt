@@ -1,4 +1,4 @@
--- The text that is written for a constant's value.
+-- The text that is written for a constant's value when it replaces a use.
 -- Rule: docs/PROTOCOL.md, Requests on documents 9.
 use Rattle.std.specs.Prelude.{suc, true, false, ℤ, pos, negsuc, if◌then◌else◌, nat_lt, Some, None, codes, Option}
 use Rattle.ob0_tree.specs.declared.tree.Sign.TheVariants as sign
@@ -8,8 +8,8 @@ use Rattle.ob0_scan.specs.Classes.{max_integer}
 use Rattle.ob0_language_names.specs.Names.{Name}
 use Rattle.ob0_language_values.specs.Values.{Value, number, truth}
 
--- a number as its digits, in parentheses if it is negative; the least number is `-2147483647 - 1`
--- in parentheses, because its digits are too large for a literal
+-- Writes a number as its digits, in parentheses if it is negative. The least number is written as `-2147483647 - 1` in
+-- parentheses, because its digits are too large for a literal.
 abbrev pub written_number : ℤ → Tree Name factor
 written_number (pos n) = integer n
 written_number (negsuc n) =
@@ -19,7 +19,7 @@ written_number (negsuc n) =
     else parenthesised (compares (sum (Some sign.Minus) (product (integer max_integer) end)
     (more (adds add_operator.Subtract (product (integer 1) end)) end)) none)
 
--- a constant's value as a factor
+-- writes a constant's value as a factor; None if it is neither a number nor a truth value
 abbrev pub written_value : Value → Option (Tree Name factor)
 written_value (number n) = Some (written_number n)
 written_value (truth true) = Some (designator (codes "TRUE") end)

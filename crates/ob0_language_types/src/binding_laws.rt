@@ -1,9 +1,8 @@
-//! The laws of bindings. Each function has an empty body: its contract is the law.
+//! The laws of bindings. Each function does nothing; its contract is the law.
 
 ghost use Rattle.ob0_language_types.specs.Bodies.{NamesAreDeclared};
 
-/// States that, if the statements of a well-typed module bind a name, they bind it to the object of
-/// its declaration.
+/// Proves that if the statements of a well-typed module bind a name, they bind it to the object of its declaration.
 pub fn names_are_declared()
     ensures { NamesAreDeclared }
 {}

@@ -1,61 +1,59 @@
-//! The laws of types and edits. Each function has an empty body: its contract is the law.
+//! The laws of types and edits. Each function does nothing; its contract is the law.
 
 ghost use Rattle.ob0_language_types.specs.Laws.{FitsByOrdinal, WellTypedByShape, ConstantsEvaluate, InliningKeepsEvaluation, InliningKeepsTypes};
 ghost use Rattle.ob0_language_types.specs.EditLaws.{FreeKeepsWellTyped, InliningKeepsWellTyped, LeavingOutKeepsWellTyped, InliningEverywhereKeepsWellTyped, ConstantsAreAlone};
 
-/// States that the type check by names accepts a module exactly if the check by ordinals accepts
-/// its numbered tree.
+/// Proves that the type check by names accepts a module exactly if the check by ordinals accepts its numbered tree.
 pub fn fits_by_ordinal()
     ensures { FitsByOrdinal }
 {}
 
-/// States that two modules with the same numbered tree are both well-typed or neither is, if each
-/// declares every name once and its closing names are right.
+/// Proves that two modules with the same numbered tree are both well-typed or neither is. Each of them must declare
+/// every name once and have the right closing names.
 pub fn well_typed_by_shape()
     ensures { WellTypedByShape }
 {}
 
-/// States that a constant expression has the same value in a run as in the checker.
+/// Proves that a constant expression has the same value in a run as in the checker.
 pub fn constants_evaluate()
     ensures { ConstantsEvaluate }
 {}
 
-/// States that an expression's evaluation is unchanged if a factor with the constant's value
-/// replaces uses of a constant.
+/// Proves that replacing uses of a constant by a factor with the constant's value leaves an expression's evaluation
+/// unchanged.
 pub fn inlining_keeps_evaluation()
     ensures { InliningKeepsEvaluation }
 {}
 
-/// States that an expression's type is unchanged if a factor with the constant's type replaces uses
-/// of a constant.
+/// Proves that replacing uses of a constant by a factor with the constant's type leaves an expression's type unchanged.
 pub fn inlining_keeps_types()
     ensures { InliningKeepsTypes }
 {}
 
-/// States that a well-typed module remains well-typed if a declaration is renamed to a free name.
+/// Proves that a well-typed module remains well-typed if a declaration is renamed to a free name.
 pub fn free_keeps_well_typed()
     ensures { FreeKeepsWellTyped }
 {}
 
-/// States that a well-typed module remains well-typed if a constant's literal replaces uses at
-/// which it has the constant's value.
+/// Proves that a well-typed module remains well-typed if uses of a constant are replaced by its literal. The literal
+/// must have the constant's value at each of these uses.
 pub fn inlining_keeps_well_typed()
     ensures { InliningKeepsWellTyped }
 {}
 
-/// States that a well-typed module remains well-typed without the declaration of a constant that no
-/// occurrence is bound to.
+/// Proves that a well-typed module remains well-typed without the declaration of a constant that no occurrence is bound
+/// to.
 pub fn leaving_out_keeps_well_typed()
     ensures { LeavingOutKeepsWellTyped }
 {}
 
-/// States that a well-typed module remains well-typed if a constant's literal replaces all its uses
-/// and its declaration is removed. The literal must have the constant's value at each use.
+/// Proves that a well-typed module remains well-typed if all uses of a constant are replaced by its literal and its
+/// declaration is removed. The literal must have the constant's value at each use.
 pub fn inlining_everywhere_keeps_well_typed()
     ensures { InliningEverywhereKeepsWellTyped }
 {}
 
-/// States that each use of a constant in a well-typed module is a whole factor.
+/// Proves that each use of a constant in a well-typed module is a whole factor.
 pub fn constants_are_alone()
     ensures { ConstantsAreAlone }
 {}

@@ -13,10 +13,10 @@ use Rattle.ob0_language_names.specs.Names.{Name, same_name}
 pub use Rattle.ob0_language_values.specs.Division.{divided, quotient, remainder}
 
 infixl 20 ◌>>=◌
--- the type of a variable or value; k is the ordinal, in the text, of the ARRAY or RECORD that made
--- it, so two types are the same exactly if their shapes are equal
+-- The type of a variable or value. `k` is the ordinal, in the text, of the word ARRAY or RECORD that made the type. So
+-- two types are the same exactly if their shapes are equal.
 mutual
-  -- INTEGER, BOOLEAN, an array of this length, or a record
+  -- a type: INTEGER, BOOLEAN, an array of some length, or a record
   pub data Shape : Type 0 where
     integer_shape : Shape
     boolean_shape : Shape
@@ -28,10 +28,10 @@ mutual
     no_field_shape : FieldShapes
     next_field_shape : Name → Shape → FieldShapes → FieldShapes
 
--- a value: a number, a truth value, an array's elements, or a record's members; k is the ordinal of
--- the RECORD that made the record's type
+-- A value: a number, a truth value, an array's elements, or a record's members. `k` is the ordinal of the RECORD that
+-- made the record's type.
 mutual
-  -- a scalar, an array or a record
+  -- a value, which is a scalar, an array or a record
   pub data Value : Type 0 where
     number : ℤ → Value
     truth : Bool → Value
@@ -52,22 +52,22 @@ mutual
 pub data End : Type 0 where
   Done Overflow Divisor Index InputEnd CallBound TurnBound Stuck : End
 
--- the outcome of a step: it gives a result, or it ends the run
+-- the outcome of a step: a result, or the end of the run
 pub data Outcome (A : Type 0) : Type 0 where
   gives : A → Outcome A
   ends : End → Outcome A
 
--- one evaluation after another; if the first one ends the run, the second one isn't made
+-- runs one evaluation after another; if the first one ends the run, the second one isn't made
 abbrev pub ◌>>=◌ : {A B : Type 0} → Outcome A → (A → Outcome B) → Outcome B
 ◌>>=◌ (gives a) next = next a
 ◌>>=◌ (ends e) next = ends e
 
--- gives an optional value, or leaves the run stuck if there is none
+-- gives an optional value; if there is none, the run is stuck
 abbrev pub or_stuck : {A : Type 0} → Option A → Outcome A
 or_stuck None = ends Stuck
 or_stuck (Some a) = gives a
 
--- true if a number fits in 32 bits
+-- returns true if a number fits in 32 bits
 abbrev pub fits : ℤ → Bool
 fits (pos n) = nat_lt n (2 ^ 31)
 fits (negsuc n) = nat_lt n (2 ^ 31)
@@ -76,19 +76,19 @@ fits (negsuc n) = nat_lt n (2 ^ 31)
 abbrev pub in_range : ℤ → Outcome Value
 in_range n = if fits n then gives (number n) else ends Overflow
 
--- gives the result of a division, or Divisor if the divisor was below 1
+-- gives the result of a division, Divisor if there is none, or Overflow if it doesn't fit in 32 bits
 abbrev pub divided_by : Option ℤ → Outcome Value
 divided_by None = ends Divisor
 divided_by (Some n) = in_range n
 
--- the result of `+`, `-` or OR
+-- returns the result of `+`, `-` or OR; stuck for operands of other types
 abbrev pub add : AddOperator → Value → Value → Outcome Value
 add add_operator.Add (number a) (number b) = in_range (a +ℤ b)
 add add_operator.Subtract (number a) (number b) = in_range (a -ℤ b)
 add add_operator.Or (truth a) (truth b) = gives (truth (a || b))
 add _ _ _ = ends Stuck
 
--- the result of `*`, DIV, MOD or `&`
+-- returns the result of `*`, DIV, MOD or `&`; stuck for operands of other types
 abbrev pub multiply : MultiplyOperator → Value → Value → Outcome Value
 multiply multiply_operator.Multiply (number a) (number b) = in_range (a *ℤ b)
 multiply multiply_operator.Divide (number a) (number b) = divided_by (divided quotient a b)
@@ -96,22 +96,22 @@ multiply multiply_operator.Modulo (number a) (number b) = divided_by (divided re
 multiply multiply_operator.And (truth a) (truth b) = gives (truth (a && b))
 multiply _ _ _ = ends Stuck
 
--- true if the left side makes `a OR b` TRUE, so that b isn't evaluated
+-- returns true if the left operand makes `a OR b` TRUE, so that `b` isn't evaluated
 abbrev pub add_is_settled : AddOperator → Value → Bool
 add_is_settled add_operator.Or (truth true) = true
 add_is_settled _ _ = false
 
--- true if the left side makes `a & b` FALSE, so that b isn't evaluated
+-- returns true if the left operand makes `a & b` FALSE, so that `b` isn't evaluated
 abbrev pub multiply_is_settled : MultiplyOperator → Value → Bool
 multiply_is_settled multiply_operator.And (truth false) = true
 multiply_is_settled _ _ = false
 
--- true if two truth values are equal
+-- returns true if two truth values are equal
 abbrev pub same_truth : Bool → Bool → Bool
 same_truth true b = b
 same_truth false b = not b
 
--- true if a relation holds between two numbers
+-- returns true if a relation holds between two numbers
 abbrev pub compare_numbers : Relation → ℤ → ℤ → Bool
 compare_numbers relation.Equal a b = int_le a b && int_le b a
 compare_numbers relation.NotEqual a b = not (int_le a b && int_le b a)
@@ -120,26 +120,26 @@ compare_numbers relation.LessEqual a b = int_le a b
 compare_numbers relation.Greater a b = int_lt b a
 compare_numbers relation.GreaterEqual a b = int_le b a
 
--- the result of a relation between two numbers or two truth values
+-- returns the truth value of a relation between two numbers, or with `=` or `#` between two truth values
 abbrev pub relate : Relation → Value → Value → Outcome Value
 relate r (number a) (number b) = gives (truth (compare_numbers r a b))
 relate relation.Equal (truth a) (truth b) = gives (truth (same_truth a b))
 relate relation.NotEqual (truth a) (truth b) = gives (truth (not (same_truth a b)))
 relate _ _ _ = ends Stuck
 
--- the result of an optional sign before a value
+-- returns the result of an optional sign before a value
 abbrev pub apply_sign : Option Sign → Value → Outcome Value
 apply_sign None v = gives v
 apply_sign (Some sign.Plus) (number a) = in_range a
 apply_sign (Some sign.Minus) (number a) = in_range (neg_ℤ a)
 apply_sign _ _ = ends Stuck
 
--- the result of `~`
+-- returns the result of `~`; stuck for any value that isn't a truth value
 abbrev pub negate : Value → Outcome Value
 negate (truth b) = gives (truth (not b))
 negate _ = ends Stuck
 
--- one step of a path into a value: to an element, or to a field
+-- a step of a path into a value: to an element of an array, or to a field of a record
 pub data Step : Type 0 where
   at_index : ℕ → Step
   at_field : Name → Step
@@ -153,82 +153,82 @@ pub record Place : Type 0 where
 abbrev pub Store : Type 0
 Store = List Value
 
--- the element at index n
+-- returns the element at index `n`; None if there is none
 abbrev pub nth_value : Values → ℕ → Option Value
 nth_value no_value n = None
 nth_value (next_value v rest) zero = Some v
 nth_value (next_value v rest) (suc n) = nth_value rest n
 
--- elements with the one at index n replaced
+-- returns the elements with the one at index `n` replaced
 abbrev pub with_nth_value : Values → ℕ → Value → Values
 with_nth_value no_value n new = no_value
 with_nth_value (next_value v rest) zero new = next_value new rest
 with_nth_value (next_value v rest) (suc n) new = next_value v (with_nth_value rest n new)
 
--- the first member with this name
+-- returns the first member with this name; None if there is none
 abbrev pub named_member : Members → Name → Option Value
 named_member no_member x = None
 named_member (next_member y v rest) x = if same_name x y then Some v else named_member rest x
 
--- members with the first one of this name replaced
+-- returns the members with the first one of this name replaced
 abbrev pub with_named_member : Members → Name → Value → Members
 with_named_member no_member x new = no_member
 with_named_member (next_member y v rest) x new =
     if same_name x y then next_member y new rest else next_member y v (with_named_member rest x new)
 
--- the part of a value that one step of a path selects
+-- returns the part of a value that one step of a path selects; None if there is none
 abbrev pub part : Value → Step → Option Value
 part (elements vs) (at_index i) = nth_value vs i
 part (members k ms) (at_field x) = named_member ms x
 part _ _ = None
 
--- a value with the part that one step selects replaced
+-- returns a value in which the part that one step selects is replaced
 abbrev pub with_part : Value → Step → Value → Value
 with_part (elements vs) (at_index i) new = elements (with_nth_value vs i new)
 with_part (members k ms) (at_field x) new = members k (with_named_member ms x new)
 with_part v _ new = v
 
--- the part of a value that a path selects
+-- returns the part of a value that a path selects; None if there is none
 abbrev pub at_path : List Step → Value → Option Value
 at_path [] v = Some v
 at_path (s ∷ path) v = option_and_then (at_path path) (part v s)
 
--- a value with the part that a path selects replaced
+-- returns a value in which the part that a path selects is replaced; None if there is no such part
 abbrev pub with_at_path : List Step → Value → Value → Option Value
 with_at_path [] new v = Some new
 with_at_path (s ∷ path) new v =
     option_and_then (λ old. option_map (with_part v s) (with_at_path path new old)) (part v s)
 
--- the value at a place
+-- returns the value at a place; None if there is none
 abbrev pub read_place : Store → Place → Option Value
 read_place store p = option_and_then (at_path p.path) (slice_get store p.variable)
 
--- the store with the value at a place replaced (rule 5)
+-- returns the store in which the value at a place is replaced (rule 5); None if there is no such place
 abbrev pub write_place : Store → Place → Value → Option Store
 write_place store p new =
     option_and_then (λ old. option_map (slice_set store p.variable) (with_at_path p.path new old))
     (slice_get store p.variable)
 
--- the number of elements of an array
+-- returns the number of elements of an array
 abbrev pub count_values : Values → ℕ
 count_values no_value = 0
 count_values (next_value v rest) = suc (count_values rest)
 
--- n elements that all have the same value
+-- returns `n` elements that all have the same value
 abbrev pub copies : ℕ → Value → Values
 copies zero v = no_value
 copies (suc n) v = next_value v (copies n v)
 
--- the first value of a variable: 0 or FALSE in each of its parts
+-- Returns the first value of a variable: 0 or FALSE in each of its parts.
 abbrev mutual
-  -- the first value of a variable of this type
+  -- returns the first value of a variable of this type
   pub initial : Shape → Value
   initial integer_shape = number (pos 0)
   initial boolean_shape = truth false
   initial (array_shape k n element) = elements (copies n (initial element))
   initial (record_shape k fs) = members k (initial_members fs)
 
-  -- the first values of a record's fields
+  -- returns the first values of a record's fields
   pub initial_members : FieldShapes → Members
   initial_members no_field_shape = no_member
   initial_members (next_field_shape x s rest) = next_member x (initial s) (initial_members rest)

@@ -1,5 +1,5 @@
-//! The values of Oberon-0, as definitions: 32-bit numbers, truth values, arrays and records. The
-//! operators on scalars, including DIV and MOD, also exist in code (docs/LANGUAGE.md, Runs).
+//! Definitions of the values of Oberon-0: 32-bit numbers, truth values, arrays and records. The operators on scalars,
+//! including DIV and MOD, also exist in code (docs/LANGUAGE.md, Runs).
 #![tactic(auto)]
 
 ghost use Rattle.std.specs.Prelude.{◌≡◌};
@@ -9,7 +9,7 @@ pub mod scalar;
 
 pub use scalar::{OperatorFault, Scalar};
 
-/// Returns `left DIV right`, rounded down, or None if the divisor is below 1.
+/// Returns `left DIV right`, rounded down. Returns None if the divisor `right` is below 1.
 #[inline(always)]
 pub fn divide(left: i32, right: i32) -> Option<i32>
     ensures { result ≡ divided quotient left right }
@@ -20,7 +20,7 @@ pub fn divide(left: i32, right: i32) -> Option<i32>
     Some(left.div_euclid(right))
 }
 
-/// Returns `left MOD right`, which is never negative, or None if the divisor is below 1.
+/// Returns `left MOD right`, which is never negative. Returns None if the divisor `right` is below 1.
 #[inline(always)]
 pub fn modulo(left: i32, right: i32) -> Option<i32>
     ensures { result ≡ divided remainder left right }

@@ -1,5 +1,4 @@
-//! Numbers and truth values, and the results of the operators on them (Wirth, Compiler
-//! Construction, Oberon-0).
+//! Numbers and truth values, and the operators on them (Wirth, Compiler Construction, Oberon-0).
 
 ghost use Rattle.std.specs.Prelude.{◌≡◌};
 ghost use Rattle.ob0_language_values.specs.Values.{add, add_is_settled, compare_numbers, divided_by, in_range, multiply, multiply_is_settled, negate, number, relate, apply_sign, truth};
@@ -8,7 +7,7 @@ ghost use Rattle.ob0_tree.specs.declared.tree.MultiplyOperator.TheVariants.{Divi
 
 use ob0_tree::{AddOperator, MultiplyOperator, Relation, Sign};
 
-/// A value without parts.
+/// A value without parts: a number or a truth value.
 #[derive(Clone, Copy, Debug, PartialEq, Eq)]
 pub enum Scalar {
     /// A 32-bit number.
@@ -23,11 +22,11 @@ pub enum OperatorFault {
     Overflow,
     /// The divisor of a DIV or MOD is below 1.
     Divisor,
-    /// The operator isn't defined for an operand's type. A well-typed module has no such operation.
+    /// The operator isn't defined for an operand's type. A well-typed module contains no such operation.
     Operand,
 }
 
-/// Returns the number, or `Overflow` if it couldn't be computed in 32 bits.
+/// Returns the number as a scalar. Returns `Overflow` if there is none, because it doesn't fit in 32 bits.
 fn in_range(number: Option<i32>) -> Result<Scalar, OperatorFault>
     ensures { scalar_outcome result ≡ number_outcome number }
 {
@@ -37,7 +36,7 @@ fn in_range(number: Option<i32>) -> Result<Scalar, OperatorFault>
     }
 }
 
-/// Returns the result of a division, or `Divisor` if there is none.
+/// Returns the result of a division as a scalar. Returns `Divisor` if there is none, because the divisor is below 1.
 fn of_division(number: Option<i32>) -> Result<Scalar, OperatorFault>
     ensures { scalar_outcome result ≡ divided_by number }
 {
@@ -47,14 +46,14 @@ fn of_division(number: Option<i32>) -> Result<Scalar, OperatorFault>
     }
 }
 
-/// Returns `left DIV right`, rounded down, or `Divisor` if the divisor is below 1.
+/// Returns `left DIV right`, rounded down. Returns `Divisor` if the divisor `right` is below 1.
 fn divide(left: i32, right: i32) -> Result<Scalar, OperatorFault>
     ensures { scalar_outcome result ≡ multiply Divide (number left) (number right) }
 {
     of_division(crate::divide(left, right))
 }
 
-/// Returns `left MOD right`, which is never negative, or `Divisor` if the divisor is below 1.
+/// Returns `left MOD right`, which is never negative. Returns `Divisor` if the divisor `right` is below 1.
 fn modulo(left: i32, right: i32) -> Result<Scalar, OperatorFault>
     ensures { scalar_outcome result ≡ multiply Modulo (number left) (number right) }
 {
@@ -150,8 +149,7 @@ fn multiply_truths(operator: MultiplyOperator, a: bool, b: bool) -> Result<Scala
     }
 }
 
-/// True if `left OR right` is TRUE whatever the right side is, so that the right side isn't
-/// evaluated.
+/// Returns true if the left operand makes `left OR right` TRUE, so that the right operand isn't evaluated.
 pub fn add_is_settled(operator: AddOperator, left: Scalar) -> bool
     ensures { result ≡ add_is_settled operator (scalar_value left) }
 {
@@ -165,8 +163,7 @@ pub fn add_is_settled(operator: AddOperator, left: Scalar) -> bool
     }
 }
 
-/// True if `left & right` is FALSE whatever the right side is, so that the right side isn't
-/// evaluated.
+/// Returns true if the left operand makes `left & right` FALSE, so that the right operand isn't evaluated.
 pub fn multiply_is_settled(operator: MultiplyOperator, left: Scalar) -> bool
     ensures { result ≡ multiply_is_settled operator (scalar_value left) }
 {
@@ -181,7 +178,7 @@ pub fn multiply_is_settled(operator: MultiplyOperator, left: Scalar) -> bool
     }
 }
 
-/// Compares two numbers, or two truth values for `=` and `#`.
+/// Returns the truth value of a relation between two numbers, or with `=` or `#` between two truth values.
 ///
 /// # Errors
 ///
@@ -227,7 +224,7 @@ fn relate_truths(relation: Relation, a: bool, b: bool) -> Result<Scalar, Operato
     }
 }
 
-/// Returns the operand with its sign, or unchanged if it has none.
+/// Returns the operand with its sign. Without a sign the operand is returned unchanged.
 ///
 /// # Errors
 ///

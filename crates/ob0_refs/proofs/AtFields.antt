@@ -1,4 +1,4 @@
--- The answers at a place that is on a field.
+-- The answers at a place that is on a field are about this field.
 use Rattle.std.proofs.Common.{◌≡◌, ℕ, suc, ◌&&◌, Bool, true, false, if◌then◌else◌, List, [], ◌∷◌, map, is_some, Some, None, Option, option_map, option_and_then, refl, sym, ap, ◌∙◌, subst, arith, true≢false, eq-eqb, nat_lt, All, Contains}
 use Rattle.std.proofs.lemmas.List.Elements.{All-head, All-tail}
 use Rattle.std.proofs.lemmas.Slice.Eq.{bytes_eq-Decides}
@@ -38,7 +38,7 @@ no_field : (b : Bool) (ordinal : ℕ) → answers_field (if b then answer_of.Pre
 no_field true ordinal = refl
 no_field false ordinal = refl
 
--- a place that is on a field, not on a name
+-- holds if a place is on a field and not on a name
 record OnField (r : Resolution) (offset : ℕ) (span : Span) (k : ℕ) : Type 0 where
   pub token : ℕ
   pub no_name : name_on r.module_read offset ≡ None
@@ -71,7 +71,7 @@ module _ (source : Scanned) (offset : ℕ) (x : FieldName) where
       one true e later = subst P (some_inverse e) (All-head P y ys all)
       one false e later = later e
 
-  -- its span is among the spans of the field's tokens
+  -- The span of the identifier at a place is among the spans of its field's tokens.
   found_named : (xs : List FieldName) → field_on source offset xs ≡ Some x → Contains (map (span_at source) (tokens_among source x.owner (text_at source x.token) xs)) (span_at source x.token)
   found_named [] h = absurd (cc)
   found_named (y ∷ ys) h = one (is_on offset (span_at source y.token)) h (found_named ys)

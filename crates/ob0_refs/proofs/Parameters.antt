@@ -1,18 +1,17 @@
--- Parameters gathered from two parallel lists, the names and the signature.
--- `Gathered` states that the parameters found so far and the remaining ones are all parameters. It
--- takes any two lists, each with a function, so that code and definition can be compared without a
--- `map` between them.
+-- Gathering parameters from two parallel lists, the names and the signature, gives all parameters. `Gathered` states
+-- that the parameters found so far and the parameters of the remaining items are all parameters. It takes any two
+-- lists, each with a function. So code and definition can be compared without a `map` between them.
 use Rattle.std.proofs.Common.{◌≡◌, ℕ, ◌<◌, zero, suc, min, List, [], ◌∷◌, ◌++◌, length, drop, map, get_or, refl, ap, sym, ◌∙◌, arith, append_assoc, append-nil}
 use Rattle.ob0_refs.specs.Declarations.{parameter_hover, parameters_hover}
 use Rattle.ob0_refs.specs.Hovers.{HoverParameter}
 use Rattle.ob0_language_names.specs.Names.{Name}
 use Rattle.ob0_language_types.specs.WellTyped.{Formal}
 
--- the parameters found so far and the remaining ones are all parameters
+-- holds if the parameters found so far, followed by the parameters of the remaining items, are all parameters
 abbrev pub Gathered : {A B : Type 0} → (A → Name) → (B → Formal) → List A → List B → ℕ → List HoverParameter → Type 0
 Gathered name formal xs ys n found = found ++ parameters_hover (map name (drop n xs)) (map formal (drop n ys)) ≡ parameters_hover (map name xs) (map formal ys)
 
--- one more item of both lists
+-- One more item of both lists gives one more parameter.
 shown_further : {A B : Type 0} (name : A → Name) (formal : B → Formal) (xs : List A) (ys : List B) (n : ℕ) → n < length xs → n < length ys → (d : A) (e : B)
     → parameters_hover (map name (drop n xs)) (map formal (drop n ys)) ≡ parameter_hover (name (get_or xs n d)) (formal (get_or ys n e)) ∷ parameters_hover (map name (drop (suc n) xs)) (map formal (drop (suc n) ys))
 shown_further name formal [] ys n h g d e = absurd (omega arith)
@@ -28,7 +27,7 @@ gathered_further name formal xs ys n found x y so_far h g at here =
     ∙ ap (λ z. parameter_hover (name (get_or xs n x)) (formal z) ∷ parameters_hover (map name (drop (suc n) xs)) (map formal (drop (suc n) ys))) (here y) ∙ sym (shown_further name formal xs ys n h g x y))
     ∙ so_far
 
--- if one of the lists is used up, no parameter remains
+-- If one of the lists is used up, no parameter remains.
 shown_ends : {A B : Type 0} (name : A → Name) (formal : B → Formal) (xs : List A) (ys : List B) (n : ℕ) → n ≡ min (length xs) (length ys) → parameters_hover (map name (drop n xs)) (map formal (drop n ys)) ≡ []
 shown_ends name formal [] ys zero e = refl
 shown_ends name formal [] ys (suc n) e = refl

@@ -37,7 +37,7 @@ declaring t = declaring_only (identifiers role.Declaring t)
 abbrev AreAmong : List ℕ → List (ℕ × List ℕ) → Type 0
 AreAmong all hs = All (IsAmong all) hs
 
--- a heading among identifiers is also among them if others come before or after
+-- A heading that is among identifiers is also among them if others come before or after.
 all_after : (xs ys : List (Role × ℕ)) (hs : List (ℕ × List ℕ)) → AreAmong (declaring_only ys) hs → AreAmong (declaring_only (xs ++ ys)) hs
 all_after xs ys hs h =
     subst (λ all. AreAmong all hs) (sym (declaring_only-append xs ys)) (All-weaker (IsAmong (declaring_only ys)) (IsAmong (declaring_only xs ++ declaring_only ys)) (among_after (declaring_only xs) (declaring_only ys)) hs h)

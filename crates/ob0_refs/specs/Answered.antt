@@ -9,10 +9,10 @@ use Rattle.ob0_refs.specs.declared.answers.At as answer
 use Rattle.ob0_refs.specs.declared.answers.Of as of
 use Rattle.ob0_refs.specs.declared.answers.Of.TheVariants as answer_of
 
--- a predeclared name for the ordinals 0 to 6, a declaration of the text for all others
+-- returns Predeclared for the ordinals 0 to 6, and the declaration of the text for all others
 abbrev pub of_ordinal : ℕ → of.Of
 of_ordinal ordinal = if nat_lt ordinal predeclared_count then answer_of.Predeclared else answer_of.Declared ordinal
 
--- a name at a place: its span and its declaration
+-- returns the answer about a name: its span and its declaration
 abbrev pub at_name : Parsed → named.Named → answer.At
 at_name m n = record { span = span_at m.source n.token; of = of_ordinal n.ordinal }

@@ -9,10 +9,10 @@ use Rattle.ob0_language_types.specs.Expressions.{Object}
 use Rattle.ob0_language_types.specs.WellTyped.{Signature}
 use Rattle.ob0_language_values.specs.Values.{Shape}
 
--- the object that a declaration of the table represents
+-- returns the object that a declaration of the table stands for
 abbrev pub object_of : Tables → declaration.Object → Option (Object Shape Signature)
 object_of t o = object_in (shapes_of t) o
 
--- the parameters of a procedure of the table, by mode and type
+-- returns the parameters of a procedure of the table, by mode and type
 abbrev pub signature_in : Tables → List formal.Formal → Signature
 signature_in t fs = map (formal_in (shapes_of t)) fs

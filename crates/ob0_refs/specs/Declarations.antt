@@ -15,30 +15,30 @@ use Rattle.ob0_language_types.specs.WellTyped.{Formal, Mode, Signature, by_place
 use Rattle.ob0_language_values.specs.Values.{Shape, Value, elements, members, number, truth}
 use Rattle.ob0_language_values.specs.declared.scalar.Scalar.TheVariants as scalar
 
--- the hover text of a constant, which is a number or a truth value
+-- returns the hover text of a constant; None if the value is neither a number nor a truth value
 abbrev pub constant_hover : Name → Value → Option (List ℕ)
 constant_hover name (number n) = Some (constant_text name (scalar.Number n))
 constant_hover name (truth b) = Some (constant_text name (scalar.Truth b))
 constant_hover name (elements vs) = None
 constant_hover name (members k ms) = None
 
--- true for a VAR parameter
+-- returns true for a VAR parameter
 abbrev pub is_by_place : Mode → Bool
 is_by_place by_value = false
 is_by_place by_place = true
 
--- a parameter in a hover text
+-- returns a formal parameter in the form for hover texts
 abbrev pub parameter_hover : Name → Formal → HoverParameter
 parameter_hover name f =
     record { by_place = is_by_place f.mode; name = name; of = type_text f.shape }
 
--- the parameters of a procedure, from the names that are declared after it and from its signature
+-- returns the parameters of a procedure, given the names that are declared after it and its signature
 abbrev pub parameters_hover : List Name → Signature → List HoverParameter
 parameters_hover (x ∷ xs) (f ∷ fs) = parameter_hover x f ∷ parameters_hover xs fs
 parameters_hover [] fs = []
 parameters_hover (x ∷ xs) [] = []
 
--- the hover text of a declaration, from its name, the names declared after it, and its object
+-- returns the hover text of a declaration, given its name, the names declared after it, and its object
 abbrev pub object_hover : Name → List Name → Object Shape Signature → Option (List ℕ)
 object_hover name following (a_constant v) = constant_hover name v
 object_hover name following (a_type s) = Some (named_type_text name (type_text s))
@@ -47,13 +47,13 @@ object_hover name following (a_procedure fs) =
     Some (procedure_text name (parameters_hover following fs))
 object_hover name following (a_standard s) = Some (predeclared_text name)
 
--- the names that are declared after the declaration with this ordinal, in text order
+-- returns the names that are declared after the declaration with this ordinal, in text order
 abbrev pub names_after : Parsed → ℕ → List Name
 names_after m ordinal =
     map (text_at m.source)
     (drop (ordinal + 1 - predeclared_count) (declaring_only (identifiers role.Declaring (tree_of m))))
 
--- the hover text of a name that the text declares, given its object
+-- returns the hover text of a name that the text declares, given its object; None without an object
 abbrev pub declaration_hover : Parsed
     → named.Named
     → Option (Object Shape Signature)
@@ -61,7 +61,7 @@ abbrev pub declaration_hover : Parsed
 declaration_hover m n object =
     option_and_then (object_hover (text_at m.source n.token) (names_after m n.ordinal)) object
 
--- the hover text of a name; the ordinals 0 to 6 are predeclared
+-- returns the hover text of a name; the ordinals 0 to 6 are predeclared
 abbrev pub name_hover : Parsed → named.Named → Option (Object Shape Signature) → Option (List ℕ)
 name_hover m n object =
     if nat_lt n.ordinal predeclared_count

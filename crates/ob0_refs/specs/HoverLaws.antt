@@ -10,30 +10,30 @@ use Rattle.ob0_language_names.specs.Parts.{formal_names, formal_sections, module
 use Rattle.ob0_scope_table.specs.Resolution.{declaring_only, token_declaring}
 use Rattle.ob0_refs.specs.Declarations.{names_after}
 
--- the headings of procedures in text order: each name with the names of its formal parameters
+-- Returns the headings of procedures in text order: each name with the names of its formal parameters.
 abbrev mutual
-  -- the headings in a block
+  -- returns the headings in a block
   pub block_headings : Tree ℕ block → List (ℕ × List ℕ)
   block_headings (has_body (declares cs ts vs ps) statements) = headings ps
 
-  -- the headings of procedures, each followed by the headings in its block
+  -- returns the headings of procedures, each followed by the headings in its block
   pub headings : Tree ℕ (items procedure) → List (ℕ × List ℕ)
   headings end = []
   headings (more p rest) = procedure_headings p ++ headings rest
 
-  -- the heading of a procedure, then the headings in its block
+  -- returns the heading of a procedure, followed by the headings in its block
   pub procedure_headings : Tree ℕ (item procedure) → List (ℕ × List ℕ)
   procedure_headings (declares_procedure x fs b closing) =
       (x, formal_names (formal_sections fs)) ∷ block_headings b
 
--- states that the first names declared after a procedure are the names of its parameters
+-- holds if the first names declared after the procedure with this heading are the names of its parameters
 pub record HasParametersAfter (m : Parsed) (heading : ℕ × List ℕ) : Type 0 where
   pub ordinal : ℕ
   pub declares : token_declaring (declaring_only (identifiers role.Declaring (tree_of m))) ordinal
       ≡ Some heading.0
   pub following : take (length heading.1) (names_after m ordinal) ≡ map (text_at m.source) heading.1
 
--- after each procedure, the first names declared are the names of its parameters
+-- After each procedure of a module, the first names declared are the names of its parameters.
 abbrev pub ParametersFollow : Type 0
 ParametersFollow =
     (m : Parsed) → All (HasParametersAfter m) (block_headings (module_block (tree_of m)))

@@ -1,5 +1,5 @@
--- The hover text of a name: its declaration, or that it is predeclared. Names and types are given
--- by their texts.
+-- The hover texts of names: a declaration, or the note that a name is predeclared. Names and types are given by their
+-- texts.
 -- Rule: docs/PROTOCOL.md, JSON shapes 3.
 use Rattle.std.specs.Prelude.{ℕ, ◌+◌, Bool, true, false, List, [], ◌∷◌, ◌++◌, codes, decimal}
 use Rattle.std.specs.Fmt.{signed_decimal}
@@ -7,22 +7,22 @@ use Rattle.ob0_language_values.specs.Values.{FieldShapes, Shape, array_shape, bo
 use Rattle.ob0_language_values.specs.declared.scalar.Scalar.{Scalar}
 use Rattle.ob0_language_values.specs.declared.scalar.Scalar.TheVariants as scalar
 
--- the word TRUE or FALSE
+-- returns the word TRUE or FALSE
 abbrev pub truth_text : Bool → List ℕ
 truth_text true = codes "TRUE"
 truth_text false = codes "FALSE"
 
--- a constant's value: its decimal digits, TRUE or FALSE
+-- returns the text of a constant's value: its decimal digits, TRUE or FALSE
 abbrev pub scalar_text : Scalar → List ℕ
 scalar_text (scalar.Number n) = signed_decimal n
 scalar_text (scalar.Truth b) = truth_text b
 
--- the number of fields of a record
+-- returns the number of fields of a record
 abbrev pub fields_count : FieldShapes → ℕ
 fields_count no_field_shape = 0
 fields_count (next_field_shape x s rest) = fields_count rest + 1
 
--- a type's text; an array is ARRAY n OF T, a record is RECORD with k fields
+-- returns a type's text; an array is ARRAY n OF T, a record is RECORD with k fields
 abbrev pub type_text : Shape → List ℕ
 type_text integer_shape = codes "INTEGER"
 type_text boolean_shape = codes "BOOLEAN"
@@ -30,52 +30,52 @@ type_text (array_shape k n s) = codes "ARRAY " ++ (decimal n ++ (codes " OF " ++
 type_text (record_shape k fs) =
     codes "RECORD with " ++ (decimal (fields_count fs) ++ codes " fields")
 
--- a constant: CONST c = V
+-- returns the text of a constant: CONST c = V
 abbrev pub constant_text : List ℕ → Scalar → List ℕ
 constant_text name value = codes "CONST " ++ (name ++ (codes " = " ++ scalar_text value))
 
--- a type: TYPE t = T
+-- returns the text of a type: TYPE t = T
 abbrev pub named_type_text : List ℕ → List ℕ → List ℕ
 named_type_text name of = codes "TYPE " ++ (name ++ (codes " = " ++ of))
 
--- a variable: VAR x: T
+-- returns the text of a variable: VAR x: T
 abbrev pub variable_text : List ℕ → List ℕ → List ℕ
 variable_text name of = codes "VAR " ++ (name ++ (codes ": " ++ of))
 
--- a field: FIELD f: T
+-- returns the text of a field: FIELD f: T
 abbrev pub field_text : List ℕ → List ℕ → List ℕ
 field_text name of = codes "FIELD " ++ (name ++ (codes ": " ++ of))
 
--- a parameter: whether it is passed by its place, its name and the text of its type
+-- a parameter: whether it is passed by its place (VAR), its name and the text of its type
 pub record HoverParameter : Type 0 where
   pub by_place : Bool
   pub name : List ℕ
   pub of : List ℕ
 
--- `VAR ` for a VAR parameter, otherwise nothing
+-- returns `VAR ` for a VAR parameter, otherwise the empty text
 abbrev pub by_text : Bool → List ℕ
 by_text true = codes "VAR "
 by_text false = []
 
--- a parameter: `a: T` or `VAR a: T`
+-- returns the text of a parameter: `a: T` or `VAR a: T`
 abbrev pub parameter_text : HoverParameter → List ℕ
 parameter_text p = by_text p.by_place ++ (p.name ++ (codes ": " ++ p.of))
 
--- further parameters, each after a `; `
+-- returns the texts of further parameters, each after a `; `
 abbrev pub further_text : List HoverParameter → List ℕ
 further_text [] = []
 further_text (p ∷ ps) = codes "; " ++ (parameter_text p ++ further_text ps)
 
--- all parameters, with `; ` between them
+-- returns the texts of all parameters, with `; ` between them
 abbrev pub parameters_text : List HoverParameter → List ℕ
 parameters_text [] = []
 parameters_text (p ∷ ps) = parameter_text p ++ further_text ps
 
--- a procedure: PROCEDURE p(a: T; VAR b: T)
+-- returns the text of a procedure: PROCEDURE p(a: T; VAR b: T)
 abbrev pub procedure_text : List ℕ → List HoverParameter → List ℕ
 procedure_text name ps =
     codes "PROCEDURE " ++ (name ++ (codes "(" ++ (parameters_text ps ++ codes ")")))
 
--- a predeclared name: `predeclared N`
+-- returns the text of a predeclared name: `predeclared N`
 abbrev pub predeclared_text : List ℕ → List ℕ
 predeclared_text name = codes "predeclared " ++ name

@@ -4,6 +4,6 @@ use Rattle.std.specs.Prelude.{string_bytes}
 use Rattle.ob0_refs.specs.Hovers as hovers
 use Rattle.ob0_refs.specs.declared.hovers.Parameter.{Parameter}
 
--- the parameter that a parameter of the code represents
+-- returns the parameter that a parameter of the code stands for
 abbrev pub parameter_in : Parameter → hovers.HoverParameter
 parameter_in p = record { by_place = p.by_place; name = p.name.now; of = string_bytes p.of }

@@ -6,10 +6,10 @@ use Rattle.ob0_refs.specs.declared.answers.Capture as capture_answer
 use Rattle.ob0_refs.specs.declared.answers.Hover as answer
 use Rattle.ob0_refs.specs.Shown.{HoverText}
 
--- the hover that a hover of the code represents
+-- returns the hover text that a hover of the code stands for
 abbrev pub hover_in : answer.Hover → HoverText
 hover_in h = record { span = h.span; text = string_bytes h.text }
 
--- the span of a conflict of the code
+-- returns the span of a conflict of the code
 abbrev pub capture_at : capture_answer.Capture → Span
 capture_at c = c.span

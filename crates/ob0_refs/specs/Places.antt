@@ -8,12 +8,12 @@ use Rattle.ob0_tree.specs.declared.tree.Role.TheVariants as role
 use Rattle.ob0_scope_table.specs.Resolution.{declaring_only, span_at, token_declaring}
 use Rattle.ob0_scope.specs.NamesAtPlaces.{tokens_bound}
 
--- the span of the identifier that declares an ordinal, or None for a predeclared name
+-- returns the span of the identifier that declares this ordinal; None for a predeclared name
 abbrev pub declaring_span : Parsed → ℕ → Option Span
 declaring_span m ordinal =
     option_map (span_at m.source)
     (token_declaring (declaring_only (identifiers role.Declaring (tree_of m))) ordinal)
 
--- the spans of the references to d, with the declaring identifier if `include` is true
+-- returns the spans of the references to `d`, with the declaring identifier if `include` is true
 abbrev pub references_to : Parsed → ℕ → Bool → List Span
 references_to m d include = map (span_at m.source) (tokens_bound m d include)

@@ -1,4 +1,4 @@
--- Questions about a place: about the name or field that the identifier there refers to.
+-- The answers to questions about the name or field that the identifier at a place refers to.
 -- Rule: docs/PROTOCOL.md, Requests on documents 3 to 5.
 use Rattle.std.specs.Prelude.{◌≡◌, ◌==◌, ℕ, Bool, true, false, not, nat_lt, List, [], map, if◌then◌else◌, Option, Some, None, option_map, option_and_then, unwrap_or}
 use Rattle.std.specs.List.{filter}
@@ -24,34 +24,34 @@ use Rattle.ob0_refs.specs.declared.answers.Of.TheVariants as answer_of
 
 -- ---- the name or field at a place
 
--- the index of a field in its record, found by its name
+-- returns the index of a field in its record, found by its name; 0 if it isn't found
 abbrev pub index_of : Parsed → FieldName → ℕ
 index_of m x = unwrap_or (field_place m x.owner (text_at m.source x.token)) 0
 
--- a field at a place: its span, its record and its index in the record
+-- returns the answer about a field: its span, its record and its index in the record
 abbrev pub at_field : Parsed → FieldName → answer.At
 at_field m x =
     record { span = span_at m.source x.token; of = answer_of.Field x.owner (index_of m x) }
 
--- the span of an identifier, and the thing it refers to
+-- returns the answer about an identifier: its span and the thing it refers to
 abbrev pub at_meant : Parsed → ℕ → Meant → answer.At
 at_meant m token (Name ordinal) = at_name m (record { token = token; ordinal = ordinal })
 at_meant m token (Field k) = at_field m (record { token = token; owner = k })
 
--- the name or field at a place
+-- returns the answer about the name or field at a byte offset; None if there is none
 abbrev pub identified_at : Resolution → ℕ → Option answer.At
 identified_at r offset =
     option_map (λ (x : Identified). at_meant r.module_read x.token x.means) (meant_at r offset)
 
 -- ---- the name or field that can be renamed
 
--- the span of an identifier, unless its name is predeclared
+-- returns the span of an identifier; None if its name is predeclared
 abbrev pub renamable_meant : Parsed → ℕ → Meant → Option Span
 renamable_meant m token (Name ordinal) =
     if nat_lt ordinal predeclared_count then None else Some (span_at m.source token)
 renamable_meant m token (Field k) = Some (span_at m.source token)
 
--- the span of the name or field at a place, if it can be renamed
+-- returns the span of the name or field at a byte offset, if it can be renamed
 abbrev pub renamable_at : Resolution → ℕ → Option Span
 renamable_at r offset =
     option_and_then (λ (x : Identified). renamable_meant r.module_read x.token x.means)
@@ -59,17 +59,17 @@ renamable_at r offset =
 
 -- ---- the declaration
 
--- the span of the identifier that declares a field
+-- returns the span of the identifier that declares a field
 abbrev pub field_declared : Parsed → FieldName → Option Span
 field_declared m x =
     option_map (span_at m.source) (declaring_field m x.owner (text_at m.source x.token))
 
--- the span of the declaration that an identifier refers to
+-- returns the span of the declaration that an identifier refers to
 abbrev pub declared_meant : Parsed → ℕ → Meant → Option Span
 declared_meant m token (Name ordinal) = declaring_span m ordinal
 declared_meant m token (Field k) = field_declared m (record { token = token; owner = k })
 
--- the span of the declaration of the name or field at a place
+-- returns the span of the declaration of the name or field at a byte offset
 abbrev pub definition_at : Resolution → ℕ → Option Span
 definition_at r offset =
     option_and_then (λ (x : Identified). declared_meant r.module_read x.token x.means)
@@ -77,43 +77,43 @@ definition_at r offset =
 
 -- ---- the references
 
--- all tokens except one
+-- returns all tokens except one
 abbrev pub other_tokens : Option ℕ → List ℕ → List ℕ
 other_tokens None tokens = tokens
 other_tokens (Some token) tokens = filter (λ other. not (other == token)) tokens
 
--- the tokens of a field in text order, with the declaring one if the last argument is true
+-- returns the tokens of a field in text order; the last argument says whether the declaring token is included
 abbrev pub field_references : Resolution → FieldName → Bool → List ℕ
 field_references r x true = field_tokens r x.owner (text_at r.module_read.source x.token)
 field_references r x false =
     other_tokens (declaring_field r.module_read x.owner (text_at r.module_read.source x.token))
     (field_tokens r x.owner (text_at r.module_read.source x.token))
 
--- the spans of a field's identifiers, in text order
+-- returns the spans of a field's identifiers, in text order
 abbrev pub field_named : Resolution → Bool → FieldName → List Span
 field_named r include x = map (span_at r.module_read.source) (field_references r x include)
 
--- the references to the name or field that an identifier refers to
+-- returns the spans of the references to the name or field that an identifier refers to
 abbrev pub named_meant : Resolution → Bool → ℕ → Meant → List Span
 named_meant r include token (Name ordinal) = references_to r.module_read ordinal include
 named_meant r include token (Field k) = field_named r include (record { token = token; owner = k })
 
--- the references for an optional identifier; empty if there is none
+-- returns the spans of the references for an optional identifier; without one the list is empty
 abbrev pub named_by : Resolution → Bool → Option Identified → List Span
 named_by r include None = []
 named_by r include (Some x) = named_meant r include x.token x.means
 
--- the references to the name or field at a place
+-- returns the spans of the references to the name or field at a byte offset
 abbrev pub references_at : Resolution → ℕ → Bool → List Span
 references_at r offset include = named_by r include (meant_at r offset)
 
--- states that these spans are the references at a place
+-- holds if these spans are the references to the name or field at a byte offset
 abbrev pub AreReferencesAt : Resolution → ℕ → Bool → List Span → Type 0
 AreReferencesAt r offset include spans = spans ≡ references_at r offset include
 
 -- ---- hover texts
 
--- the hover of a field's identifier, given the field's type
+-- returns the hover text of a field's identifier, given the field's type
 abbrev pub typed_hover : Resolution → ℕ → Shape → HoverText
 typed_hover r token s =
     record {
@@ -121,17 +121,17 @@ typed_hover r token s =
       text = field_text (text_at r.module_read.source token) (type_text s);
     }
 
--- the hover of a field: its type, both at its declaration and at each selector
+-- returns the hover text of a field, which shows its type, both at its declaration and at each selector
 abbrev pub field_hover : Resolution → FieldName → Option HoverText
 field_hover r x = option_map (λ f. typed_hover r x.token f.shape) (typed_field r x)
 
--- the hover of the name or field that an identifier refers to
+-- returns the hover text of the name or field that an identifier refers to
 abbrev pub meant_hover : Resolution → ℕ → Meant → Option HoverText
 meant_hover r token (Name ordinal) =
     hover_of r.module_read (record { token = token; ordinal = ordinal })
 meant_hover r token (Field k) = field_hover r (record { token = token; owner = k })
 
--- the hover text at a place
+-- returns the hover text at a byte offset; None if there is no name and no field
 abbrev pub hover_at_place : Resolution → ℕ → Option HoverText
 hover_at_place r offset =
     option_and_then (λ (x : Identified). meant_hover r x.token x.means) (meant_at r offset)

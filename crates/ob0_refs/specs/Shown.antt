@@ -8,12 +8,12 @@ use Rattle.ob0_scope.specs.declared.naming.Named as named
 use Rattle.ob0_language_types.specs.Bindings.{declared_object}
 use Rattle.ob0_refs.specs.Declarations.{name_hover}
 
--- a hover text, and the span of the name
+-- a hover text, and the span of the identifier
 pub record HoverText : Type 0 where
   pub span : Span
   pub text : List ℕ
 
--- the hover of a name
+-- returns the hover text of a name with its span; None if the name has no declaration
 abbrev pub hover_of : Parsed → named.Named → Option HoverText
 hover_of m n =
     option_map (λ text. record { span = span_at m.source n.token; text = text })

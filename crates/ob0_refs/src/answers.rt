@@ -1,25 +1,25 @@
-//! The answers to questions about a place.
+//! The answers to questions about a place in the text.
 
 use ob0_scan::Span;
 
-/// The thing that an identifier refers to.
+/// The thing that an identifier refers to: a declaration or a field.
 #[derive(Clone, Copy, PartialEq, Eq)]
 pub enum Of {
-    /// A declaration of the text, by its ordinal.
+    /// The ordinal of a declaration of the text.
     Declared(usize),
     Predeclared,
     /// A field of a record, by the record's ordinal and the field's index in the record.
     Field { ordinal: usize, index: usize },
 }
 
-/// An identifier of the text, with the thing it refers to.
+/// An identifier of the text, with its span in bytes and the thing it refers to.
 #[derive(Clone, Copy, PartialEq, Eq)]
 pub struct At {
     pub span: Span,
     pub of: Of,
 }
 
-/// The hover text of a name, and the bytes of the name in the text.
+/// The hover text of an identifier, and the identifier's span in bytes.
 #[derive(Drop)]
 pub struct Hover {
     pub span: Span,
@@ -27,7 +27,7 @@ pub struct Hover {
     pub text: String,
 }
 
-/// An identifier at which a new name for a declaration isn't free.
+/// An identifier at which a new name for a declaration isn't free, by its span in bytes.
 #[derive(Clone, Copy, PartialEq, Eq)]
 pub struct Capture {
     pub span: Span,

@@ -1,4 +1,4 @@
-//! The spans of identifiers at which a new name for a declaration isn't free.
+//! Finds the spans of identifiers at which a new name for a declaration isn't free.
 
 ghost use Rattle.std.specs.Prelude.{◌≡◌};
 ghost use Rattle.ob0_scope.specs.Renames.{place_of};
@@ -9,7 +9,7 @@ use ob0_scan::Span;
 use ob0_scope::FirstCapture;
 use ob0_scope_table::{Resolved, token_span};
 
-/// Returns the span of a conflict: the identifier that declares the declaration, or an occurrence.
+/// Returns the span of a conflict: the span of the identifier that declares the declaration, or of an occurrence.
 pub(crate) fn capture_span(names: &Resolved, declaration: usize, capture: FirstCapture) -> Span
     ensures { result ≡ capture_span names.now.module_read declaration (place_of capture) }
 {

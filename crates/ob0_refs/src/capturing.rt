@@ -1,4 +1,4 @@
-//! The first conflict of a new name for a declaration.
+//! Finds the first conflict of a new name for a declaration.
 
 ghost use Rattle.std.specs.Prelude.{◌≡◌, ◌↔◌, None, IfOk, option_map};
 ghost use Rattle.ob0_tree.specs.Parsed.{named_tree_of};
@@ -12,9 +12,9 @@ use ob0_scope::captures as first_capture;
 use ob0_scope_table::Resolved;
 use std::alloc::{AllocError, Global};
 
-/// Returns the first place at which a new name for a declaration isn't free, or None if it is free.
-/// The place is the declaring identifier if another declaration of its block has the name.
-/// Otherwise it is the first occurrence, in text order, that would be bound to another declaration.
+/// Returns the first place at which a new name for a declaration isn't free, or None if the name is free. If another
+/// declaration of the same block has the name, the place is the declaring identifier. Otherwise it is the first
+/// occurrence, in text order, that would be bound to another declaration.
 pub fn captures(
     alloc: Global,
     names: &Resolved,

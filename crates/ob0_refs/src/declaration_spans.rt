@@ -1,4 +1,4 @@
-//! The spans at which a declaration is declared and referred to.
+//! Finds the spans at which a declaration is declared and referred to.
 
 ghost use Rattle.std.specs.Prelude.{◌≡◌, IfOk, map};
 ghost use Rattle.ob0_scope_table.specs.Resolution.{span_at};
@@ -9,7 +9,8 @@ use ob0_scope::tokens_bound;
 use ob0_scope_table::{Resolved, token_span};
 use std::alloc::{AllocError, Global};
 
-/// Returns the span of the identifier that declares an ordinal, or None for a predeclared name.
+/// Returns the span of the identifier that declares the declaration with this ordinal. Returns None for a predeclared
+/// name.
 pub(crate) fn declared_at(names: &Resolved, ordinal: usize) -> Option<Span>
     ensures { result ≡ declaring_span names.now.module_read ordinal }
 {
@@ -35,7 +36,7 @@ pub(crate) fn references_to(
     spans_of(alloc, names.tokens(), &found)
 }
 
-/// Returns the spans of some tokens.
+/// Returns the spans of tokens, in the same order.
 pub(crate) fn spans_of(
     alloc: Global,
     tokens: &Tokens,

@@ -1,9 +1,8 @@
-//! The laws of hover texts. Each function has an empty body: its contract is the law.
+//! The laws of hover texts. Each function does nothing; its contract is the law.
 
 ghost use Rattle.ob0_refs.specs.HoverLaws.{ParametersFollow};
 
-/// States that the first names declared after a procedure are the names of its parameters, in
-/// order.
+/// Proves that the first names declared after a procedure are the names of its parameters, in order.
 pub fn parameters_follow()
     ensures { ParametersFollow }
 {}

@@ -1,4 +1,4 @@
-//! The hover texts of names.
+//! Makes the hover texts of names, given the texts of their types.
 
 ghost use Rattle.std.specs.Prelude.{◌≡◌, ◌++◌, ℕ, IfOk, OnOk, map, string_bytes};
 ghost use Rattle.ob0_language_values.specs.Values.{FieldShapes, Shape, array_shape, record_shape};
@@ -8,7 +8,7 @@ ghost use Rattle.ob0_refs.specs.Parameters.{parameter_in};
 use ob0_language_values::Scalar;
 use std::alloc::{AllocError, Global};
 
-/// A formal parameter, with the text of its type.
+/// A formal parameter, with its name and the text of its type.
 #[derive(Drop)]
 pub(crate) struct Parameter<'a> {
     pub(crate) by_place: bool,

@@ -1,21 +1,19 @@
-//! The laws of fields. Each function has an empty body: its contract is the law.
+//! The laws of fields. Each function does nothing; its contract is the law.
 
 ghost use Rattle.ob0_refs.specs.Laws.{FieldsAreDefined, FieldsAreRenamedThere, FieldsHaveHovers};
 
-/// States that a field of a valid module has a definition, both at its declaration and at each
-/// selector.
+/// Proves that a field of a valid module has a definition, both at its declaration and at each selector.
 pub fn fields_are_defined()
     ensures { FieldsAreDefined }
 {}
 
-/// States that renaming at a place finds the same field as the questions do, and changes exactly
-/// the field's references.
+/// Proves that renaming at a place finds the same field as the questions do, and changes exactly the field's
+/// references.
 pub fn fields_are_renamed_there()
     ensures { FieldsAreRenamedThere }
 {}
 
-/// States that a field of a valid module has a hover text, both at its declaration and at each
-/// selector.
+/// Proves that a field of a valid module has a hover text, both at its declaration and at each selector.
 pub fn fields_have_hovers()
     ensures { FieldsHaveHovers }
 {}

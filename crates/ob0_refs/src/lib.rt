@@ -1,6 +1,6 @@
-//! Questions about the names and fields of a valid module, by their places. They give the name or
-//! field at a place, its declaration, its references and its hover text. They also give the first
-//! place at which a new name isn't free (docs/PROTOCOL.md, Requests on documents).
+//! Answers questions about the names and fields of a valid module, by their places. The answers are the name or field
+//! at a place, its declaration, its references and its hover text. Another answer is the first place at which a new
+//! name isn't free (docs/PROTOCOL.md, Requests on documents).
 #![tactic(auto)]
 
 mod answers;

@@ -1,4 +1,4 @@
-//! The answer to a question about a name: its span, and the thing it refers to.
+//! Answers a question about a name with its span and the thing it refers to.
 
 ghost use Rattle.std.specs.Prelude.{◌≡◌};
 ghost use Rattle.ob0_refs.specs.Answered.{at_name, of_ordinal};
@@ -7,7 +7,7 @@ use crate::answers::{At, Of};
 use ob0_scope::Named;
 use ob0_scope_table::{PREDECLARED, Resolved, token_span};
 
-/// Returns the span of a name and the thing it refers to.
+/// Returns the span of a name, in bytes, and the thing it refers to.
 pub(crate) fn at_name(names: &Resolved, name: Named) -> At
     ensures { result ≡ at_name names.now.module_read name }
 {

@@ -1,4 +1,4 @@
-//! The hover text at a place, which shows the name or field that the identifier there refers to.
+//! Finds the hover text at a place, which shows the name or field that the identifier there refers to.
 
 ghost use Rattle.std.specs.Prelude.{◌≡◌, IfOk, option_map};
 ghost use Rattle.ob0_refs.specs.Parts.{hover_in};
@@ -17,9 +17,9 @@ use ob0_types_fields::{FieldName, typed_field};
 use ob0_types_table::{DeclarationTable, TypeId};
 use std::alloc::{AllocError, Global};
 
-/// Returns the hover text of the identifier that contains a place or ends there. For a name it is
-/// the declaration, for a field the type, and for the closing name of a procedure the procedure.
-/// Returns None if there is no such identifier, or if it is the module's name.
+/// Returns the hover text of the identifier that contains a place, as a byte offset, or ends there. For a name the text
+/// shows the declaration, for a field the type, and for the closing name of a procedure the procedure. Returns None if
+/// there is no such identifier, or if it is the module's name.
 pub fn hover(
     alloc: Global,
     well_typed: &WellTyped<'_>,
@@ -48,7 +48,7 @@ fn meant_hover(
     }
 }
 
-/// Returns the hover of a name, or None if the name has no declaration.
+/// Returns the hover text of a name with its span. Returns None if the name has no declaration.
 fn hover_of(
     alloc: Global,
     well_typed: &WellTyped<'_>,
@@ -64,7 +64,8 @@ fn hover_of(
     }
 }
 
-/// Returns the hover of a field at one of its identifiers.
+/// Returns the hover text of a field at one of its identifiers, with the identifier's span. Returns None if the field
+/// isn't found.
 fn field_hover(
     alloc: Global,
     well_typed: &WellTyped<'_>,

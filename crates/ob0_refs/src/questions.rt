@@ -1,10 +1,9 @@
-//! Questions about a place: about the name there, or otherwise about the field.
+//! Answers questions about the name or the field at a place.
 //!
-//! Each question, and also the hover text (`place_hovers`), is a match on the meaning of the
-//! identifier at the place (`meant_at` of `ob0_types`). Renaming asks the same, so it renames the
-//! name or field of these answers. The references to a field are the identifiers that its renaming
-//! changes. References to a name take one pass over the table of ordinals, starting at the
-//! declaring token; references to a field take one pass over the module's fields.
+//! Each question, and also the hover text (`place_hovers`), is a match on the meaning of the identifier at the place
+//! (`meant_at` of `ob0_types`). Renaming uses the same meaning, so it renames the name or field of these answers. The
+//! references to a field are the identifiers that its renaming changes. References to a name take one pass over the
+//! table of ordinals, starting at the declaring token. References to a field take one pass over the module's fields.
 
 ghost use Rattle.std.specs.Prelude.{◌≡◌, IfOk, Some};
 ghost use Rattle.ob0_refs.specs.Questions.{AreReferencesAt, at_field, at_meant, declared_meant, definition_at, field_declared, field_named, field_references, index_of, identified_at, named_meant, other_tokens, renamable_at, renamable_meant};
@@ -22,9 +21,9 @@ use ob0_types::{
 use ob0_types_fields::FieldName;
 use std::alloc::{AllocError, Global};
 
-/// Returns the name or field of the identifier that contains a place or ends there. For a field
-/// this may be the declaring identifier or a selector. The closing name of a procedure is the
-/// procedure's name. Returns None if there is no such identifier, or if it is the module's name.
+/// Returns the name or field of the identifier that contains a place, as a byte offset, or ends there. For a field this
+/// may be the declaring identifier or a selector. The closing name of a procedure is the procedure's name. Returns None
+/// if there is no such identifier, or if it is the module's name.
 pub fn at(well_typed: &WellTyped<'_>, offset: usize) -> Option<At>
     ensures { result ≡ identified_at well_typed.now offset }
 {
@@ -56,7 +55,7 @@ fn at_field(well_typed: &WellTyped<'_>, field: FieldName) -> At
     }
 }
 
-/// Returns the index of a field in its record.
+/// Returns the index of a field among the fields of its record, or 0 if it isn't found.
 fn index_of(well_typed: &WellTyped<'_>, field: FieldName) -> usize
     ensures { result ≡ index_of well_typed.now.module_read field }
 {
@@ -175,8 +174,7 @@ fn field_named(
     Ok(spans)
 }
 
-/// Returns the tokens of a field, in text order; the declaring token is among them if `include` is
-/// true.
+/// Returns the tokens of a field, in text order. The declaring token is among them if `include` is true.
 fn field_references(
     alloc: Global,
     well_typed: &WellTyped<'_>,
@@ -196,7 +194,7 @@ fn field_references(
     Ok(uses)
 }
 
-/// Returns all tokens except `token`.
+/// Returns all tokens except `token`. Without a `token`, returns all.
 fn without(
     alloc: Global,
     token: Option<usize>,

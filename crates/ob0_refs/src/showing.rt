@@ -1,8 +1,7 @@
-//! The hover texts of names, according to their declarations.
+//! Makes the hover texts of names, according to their declarations.
 //!
-//! A procedure is bound to its signature, which has no names. Its parameters are the declarations
-//! after its own in the text, as many as the signature has. Predeclared names are recognized by
-//! their ordinals (0 to 6).
+//! A procedure is bound to its signature, which has no names. Its parameters are the declarations after its own in the
+//! text, as many as the signature has. Predeclared names are recognized by their ordinals (0 to 6).
 
 ghost use Rattle.std.specs.Prelude.{◌≡◌, ◌+◌, ◌-◌, [], IfOk, Some, drop, map, option_map, string_bytes};
 ghost use Rattle.ob0_tree.specs.Parsed.{tree_of};
@@ -99,7 +98,7 @@ fn variable_line(
     variable_text(alloc, name, of.as_str())
 }
 
-/// Returns the hover text of a field of a type.
+/// Returns the hover text of a field with this name and type.
 pub(crate) fn field_line(
     alloc: Global,
     known: &DeclarationTable,
@@ -141,7 +140,7 @@ fn declared_after<'r>(names: &'r Resolved<'_>, ordinal: usize) -> &'r [usize]
         ≡ drop (ordinal + 1 - predeclared_count)
         (declaring_only (identifiers role.Declaring (tree_of names.now.module_read))) }
 {
-    // For the proof: introduces the contract of `module`.
+    // The contract of this call gives the proof the invariant of the module.
     let _module = names.module();
     let declarations = names.declarations();
     let skipped = ordinal.saturating_sub(PREDECLARED - 1);
@@ -152,7 +151,8 @@ fn declared_after<'r>(names: &'r Resolved<'_>, ordinal: usize) -> &'r [usize]
     }
 }
 
-/// Returns the parameters of a procedure, given the tokens of the declarations after it.
+/// Returns the parameters of a procedure with their names. `following` are the tokens of the declarations after the
+/// procedure's.
 fn parameters_of<'s>(
     alloc: Global,
     known: &DeclarationTable,

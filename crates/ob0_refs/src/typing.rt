@@ -1,7 +1,7 @@
-//! The texts of types.
+//! Makes the texts of types.
 //!
-//! A text is built from the shape of the type, level by level. The text of an array of arrays is
-//! copied once for each level (100 at most).
+//! A text is built from the shape of the type, level by level. The text of an array of arrays is copied once for each
+//! level, which are at most 100.
 
 ghost use Rattle.std.specs.Prelude.{◌≡◌, IfOk, string_bytes};
 ghost use Rattle.ob0_refs.specs.Hovers.{type_text};
@@ -13,8 +13,7 @@ use crate::hovers::{array_text, record_text};
 use ob0_types_table::{ArrayShape, DeclarationTable, Parts, TypeId};
 use std::alloc::{AllocError, Global};
 
-/// Returns the text of a type: an array with its elements' type, a record with the number of its
-/// fields.
+/// Returns the text of a type. An array shows the type of its elements, and a record the number of its fields.
 #[cycle(types)]
 pub(crate) fn type_text(
     alloc: Global,

@@ -17,14 +17,14 @@ use Rattle.ob0_types.specs.CheckedModules.{IsChecked, IsKnownWhereTyped}
 use Rattle.ob0_types_table.specs.KnownTables.{Tables}
 use Rattle.ob0_language_types.specs.WellTyped.{WellTyped, fits_over}
 
--- states that nothing is reported exactly if a test is true
+-- holds if the list of faults is empty exactly if the test is true
 abbrev IsReported : Bool → List Fault → Type 0
 IsReported right faults = (faults ≡ []) ↔ (right ≡ true)
 
 length-nil : (xs : List Fault) → xs ≡ [] → length xs ≡ 0
 length-nil xs e = ap length e
 
--- two lists that are both empty or both not
+-- Two lists of faults are empty under the same condition if their lengths are 0 under the same condition.
 pub empty_alike : (xs ys : List Fault) → (length xs ≡ 0 → length ys ≡ 0) → (length ys ≡ 0 → length xs ≡ 0) → (xs ≡ []) ↔ (ys ≡ [])
 empty_alike xs ys there back = ((λ e. nil_from_length ys (there (length-nil xs e))), (λ e. nil_from_length xs (back (length-nil ys e))))
 
@@ -52,7 +52,8 @@ second_right true true e = sym e
 second_right true false e = refl
 second_right false b e = absurd (true≢false (sym e))
 
--- the faults of declarations are also reported
+-- If a list of faults is empty exactly if a test is true, consider the list with the faults of declarations appended.
+-- It is empty exactly if the test is true and there are no such faults.
 reported_with : (right : Bool) (first scopes : List Fault) → IsReported right first → IsReported (right && not (list_any is_of_declarations scopes)) (first ++ filter is_of_declarations scopes)
 reported_with right first scopes reported = (
   (λ e.
@@ -73,7 +74,8 @@ once_from false any e f = absurd (true≢false (sym e ∙ f))
 from_once : (b : Bool) (any : Bool) → any ≡ not b → b ≡ true → any ≡ false
 from_once b any e t = e ∙ ap not t
 
--- the table, if there is no fault of types
+-- If a table is present only when there are no faults, and then has a property, a table that is present has this
+-- property.
 known_declares : (none : Type 0) (known : Option Tables) (P : Tables → Type 0) → MatchOption known (none → ⊥) (λ t. none × P t) → IfSome known P
 known_declares none None P h = tt
 known_declares none (Some t) P h = h.1
@@ -82,20 +84,20 @@ known_there : (none : Type 0) (known : Option Tables) (P : Tables → Type 0) �
 known_there none None P h n = absurd (h n)
 known_there none (Some t) P h n = refl
 
--- a well-typed module has no reported fault
+-- A well-typed module has no reported fault of types.
 pub none_reported : NoFaultInModules → (r : Resolution) → IsResolution r → WellTyped (named_tree_of r.module_read) → reported_module r ≡ []
 unfolding WellTyped
 none_reported law r is w = law r is w.1
 
--- the table of a module is present if the module is well-typed
+-- A table in a report has the module's declarations, and the report of a well-typed module has a table.
 pub known_where_typed : (r : Resolution) (report : Report) → NoFaultInModules → IsResolution r → IsReportOf r report → IsKnownWhereTyped r report.known
 known_where_typed r report law is h = record {
   holds = known_declares (reported_module r ≡ []) report.known (HasDeclarations (named_tree_of r.module_read)) h.known;
   kept = λ typed. known_there (reported_module r ≡ []) report.known (HasDeclarations (named_tree_of r.module_read)) h.known (none_reported law r is typed);
 }
 
--- if nothing is reported exactly for a module that fits and declares each name once, nothing is
--- reported exactly for a well-typed one
+-- The result of checking a module is right (`IsChecked`) if it has the first 100 faults of the module. The table must
+-- be present exactly if no fault of types is reported.
 pub checked_reported : (r : Resolution) (faults : List Fault) → ModulesFit → NoFaultInModules → IsResolution r → ((faults ≡ []) ↔ (faults_in r ≡ []))
     → (known : Option Tables) → MatchOption known (reported_module r ≡ [] → ⊥) (λ t. (reported_module r ≡ []) × HasDeclarations (named_tree_of r.module_read) t) → length faults ≤ 100 → AreFirstOf (faults_in r) faults
     → IsChecked (record { names = r; faults = faults; known = known })

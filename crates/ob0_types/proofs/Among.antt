@@ -1,4 +1,4 @@
--- Numbers in a list.
+-- Facts about lists of numbers and whether a number is among them.
 use Rattle.std.proofs.Common.{◌≡◌, ℕ, Bool, true, false, ◌||◌, List, [], ◌∷◌, ◌++◌, refl, ◌∙◌, nat_eq, eq-eqb}
 use Rattle.std.proofs.lemmas.List.Folds.{list_any-append}
 use Rattle.std.specs.List.{AllZip}
@@ -25,7 +25,7 @@ all_among (x ∷ xs) = (itself_first, all_weaker (is_among xs) (is_among (x ∷ 
     itself_first : is_among (x ∷ xs) x ≡ true
     itself_first = or_left (nat_eq x x) (is_among xs x) (eq-eqb x x refl)
 
--- a copy of a list
+-- Two lists that are equal item by item are equal.
 pub copied_items : (xs ys : List ℕ) → AllZip (λ x y. y ≡ x) xs ys → ys ≡ xs
 copied_items [] [] h = refl
 copied_items [] (y ∷ ys) h = absurd h

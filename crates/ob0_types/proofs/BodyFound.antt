@@ -1,4 +1,5 @@
--- The tokens of a module's names and numbers except those in one body, part by part.
+-- A property holds for the tokens of a module's names and numbers outside one body. The proofs follow the parts of the
+-- module.
 use Rattle.std.proofs.Common.{◌≡◌, ℕ, zero, Bool, true, false, nat_lt, if◌then◌else◌, [], ◌∷◌, sym, subst}
 use Rattle.ob0_tree.specs.Tree.{Tree, block, body, constants, declares, declares_procedure, end, has_body, is_module, item, items, maybe, module_text, more, procedure, type_names, variables}
 use Rattle.ob0_scope_table.specs.BodyAlone.{EachToken}
@@ -26,39 +27,40 @@ module _ (P : ℕ → Type 0) (wanted : ℕ → Bool) where
     procedure_any : (p : Tree ℕ (item procedure)) → EachToken P p → ProcedureBut P wanted p
     procedure_any (declares_procedure x fs b closing) h = (h.0, h.1, block_any closing b h.2, h.3)
 
--- a module
+-- If all tokens of a module have a property, all tokens outside the wanted bodies have it.
 pub module_any : (P : ℕ → Type 0) (wanted : ℕ → Bool) (m : Tree ℕ module_text) → EachToken P m → ModuleBut P wanted m
 module_any P wanted (is_module x b closing) h = (h.0, block_any P wanted closing b h.1, h.2)
 
 -- ---- all tokens except those in one body
 
--- one of two requirements
+-- chooses one of two propositions
 abbrev pub Chosen : Bool → Type 0 → Type 0 → Type 0
 Chosen true A B = A
 Chosen false A B = B
 
--- requires something of each token except in the body that contains the range of tokens from `low`
--- upwards
+-- Holds if each token has the property, except tokens of the body that contains the tokens from index `low` upwards.
 abbrev mutual
-  -- a block
+  -- holds for a block if `P` holds for each of its tokens outside the body that contains index `low`
   pub BlockOutside : (ℕ → Type 0) → ℕ → Tree ℕ block → Type 0
   BlockOutside P low (has_body (declares cs ts vs ps) statements) = EachToken P cs × EachToken P ts × EachToken P vs × AmongOutside P low ps statements
 
-  -- the procedures of a block, and its statements
+  -- holds for the procedures and the statements of a block if `P` holds for each token outside the body that contains
+  -- index `low`
   pub AmongOutside : (ℕ → Type 0) → ℕ → Tree ℕ (items procedure) → Tree ℕ (maybe body) → Type 0
   AmongOutside P low end statements = Unit {0}
   AmongOutside P low (more p rest) statements =
       Chosen (nat_lt (closing_name p) low) (EachToken P p × AmongOutside P low rest statements) (ProcedureOutside P low p × EachToken P rest × EachToken P statements)
 
-  -- a procedure
+  -- holds for a procedure if `P` holds for each of its tokens outside the body that contains index `low`
   pub ProcedureOutside : (ℕ → Type 0) → ℕ → Tree ℕ (item procedure) → Type 0
   ProcedureOutside P low (declares_procedure x fs b closing) = P x × EachToken P fs × BlockOutside P low b × P closing
 
--- a module
+-- holds for a module if `P` holds for each of its tokens outside the body that contains index `low`
 abbrev pub ModuleOutside : (ℕ → Type 0) → ℕ → Tree ℕ module_text → Type 0
 ModuleOutside P low (is_module x b closing) = P x × BlockOutside P low b × P closing
 
--- the closing name of that body is wanted
+-- If the body that contains index `low` is wanted, and all tokens outside it have a property, all tokens outside the
+-- wanted bodies have this property.
 module _ (P : ℕ → Type 0) (low : ℕ) (wanted : ℕ → Bool) where
   mutual
     block_but : (own : ℕ) (b : Tree ℕ block) → BlockOutside P low b → wanted (body_in_block low own b).closing ≡ true → BlockBut P wanted own b

@@ -1,7 +1,6 @@
--- The order of codes is the order of the numbers that they are declared with. The derived order
--- writes the numbers as `declared_number` does; a `_` in its place isn't found. The order of the
--- key of `faults_of` has a generated name, which may differ once `faults_of` is changed: the
--- message of the check shows it.
+-- The order of codes is the order of the numbers that they are declared with. `declared_number` is written as the
+-- derived order writes these numbers; with a `_` instead, the proof isn't found. The key of `faults_of` has a generated
+-- name, which may change when `faults_of` changes: the check's message then shows the new name.
 use denote.Enum.Declared.{tag_of}
 use Rattle.std.proofs.Common.{◌≡◌, ℕ, ◌+◌, ℤ, pos, Bool, true, false, cond, ◌==◌, nat_lt, List, [], ◌∷◌, refl, sym, ap, ◌∙◌, arith, true≢false, eqb-true, eq-eqb, ltb-true, ltb-false}
 use Rattle.std.specs.List.Sorted.{IsSorted, IsSortedByKey}
@@ -52,7 +51,7 @@ pos_cmp a b = one (nat_lt a b) refl (nat_lt b a) refl (a == b) refl
     one false p false q true r = refl
     one false p false q false r = let e : a ≡ b = omega (arith, ltb-false a b p, ltb-false b a q) in absurd (true≢false (sym (eq-eqb a b e) ∙ r))
 
--- sorted by the key of place and code
+-- A list that is sorted by the key of place and code is sorted in the order of faults.
 pub sorted_by_key : (cmp : ℕ × ℕ × Code → ℕ × ℕ × Code → Ordering) (xs : List Fault)
     → ((s e : ℕ) (x : Code) (s₂ e₂ : ℕ) (y : Code) → cmp (s, e, x) (s₂, e₂, y) ≡ ordering_then (ordering_then (nat_cmp s s₂) (nat_cmp e e₂)) (int_cmp (declared_number x) (declared_number y)))
     → IsSortedByKey (λ (f : Fault). (f.span.start, f.span.end, f.code)) cmp xs → IsSorted fault_cmp xs

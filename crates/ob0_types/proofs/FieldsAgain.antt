@@ -1,6 +1,5 @@
--- The fields of a module, from its fields before the tokens of one body changed. The fields of that
--- body are found again. They are at the same tokens, because the fields of a well-typed module are
--- all identifiers in the places of fields.
+-- If the tokens of one body changed, the fields of the module are its old fields with the body's fields replaced.
+-- Fields stay at the same tokens, because in a well-typed module every identifier in the place of a field is a field.
 use Rattle.std.proofs.Common.{◌≡◌, ℕ, List, [], ◌∷◌, ◌++◌, option_and_then, length, sym, ap, ◌∙◌, subst}
 use Rattle.ob0_language_types.specs.Bindings.{declared_object}
 use Rattle.ob0_language_types.specs.Expressions.{Meanings}
@@ -36,7 +35,7 @@ module _ (r : Resolution) (types : ModuleTypes) (low : ℕ) (w : WereTypes r typ
   typed_before : WellTyped (named_tree_of old.module_read)
   typed_before = w.types_are.checked.reported.0 none
 
-  -- the meanings of names, from their declarations
+  -- returns the meanings of names before the change, according to their declarations
   abbrev meant_before : Meanings ℕ Shape Signature
   meant_before = token_objects (declared_object (named_tree_of old.module_read)) old
 
@@ -74,7 +73,8 @@ module _ (r : Resolution) (types : ModuleTypes) (low : ℕ) (w : WereTypes r typ
     same = same_tokens ∙ ap tokens_of fields_now;
   }
 
-  -- the list in which the fields of the body are written over the others at their tokens
+  -- If the old fields within the body's tokens are replaced by the fields found in the body, the list has the module's
+  -- fields.
   pub fields_over : (f : Listed) (t : Tables) → ((k : ℕ) → declared_in t k ≡ declared_object (named_tree_of r.module_read) k)
       → (statements : Tree ℕ (maybe body)) → statements ≡ (body_in_module low (tree_of r.module_read)).statements → f.declared ≡ types.fields.declared
       → ((first last : List FieldName) → HasOthersWithin types.fields.all first (marked_tree (token_objects (declared_in t) r) statements) last → f.all ≡ first ++ (marked_tree (token_objects (declared_in t) r) statements ++ last))

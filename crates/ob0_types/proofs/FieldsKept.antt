@@ -10,7 +10,7 @@ use Rattle.ob0_types_fields.proofs.ListedFields.{listed_fields}
 use Rattle.ob0_types_table.specs.KnownTables.{Tables}
 
 module _ (r : Resolution) (known : Option Tables) (is : IsResolution r) (h : IsKnownWhereTyped r known) where
-  -- a module that isn't well-typed has no table
+  -- A module without a table of declarations isn't well-typed.
   pub none_typed : {A : Type 0} → known ≡ None → WellTyped (named_tree_of r.module_read) → A
   none_typed e typed = absurd (true≢false (sym (h.kept typed) ∙ ap is_some e))
 

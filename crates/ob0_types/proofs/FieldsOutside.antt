@@ -1,5 +1,5 @@
--- The fields of a module before and after the tokens of one body changed: the fields before the
--- body and after it are the same, and between them are the fields of its statements.
+-- If the tokens of one body changed, the fields before and after the body stay the same. Between them are the fields of
+-- the body's statements.
 use Rattle.std.proofs.Common.{◌≡◌, ℕ, ◌+◌, true, false, if◌then◌else◌, nat_lt, List, [], ◌++◌, sym, ap, ◌∙◌, append_assoc, append-nil}
 use Rattle.ob0_tree.specs.Tree.{Tree, block, body, declares, declares_procedure, end, has_body, is_module, item, items, maybe, module_text, more, procedure}
 use Rattle.ob0_language_names.specs.Parts.{formal_sections, section_types, section_variables}
@@ -15,7 +15,8 @@ use Rattle.ob0_types_fields.specs.Owned.{marked_block, marked_module, marked_pro
 use Rattle.ob0_types_fields.proofs.MarkedSame.{MeansSame, procedure_same, procedures_same, tree_same}
 
 module _ {Q : Type 0} (m n : Meanings ℕ Shape Q) where
-  -- two lists with the fields of statements between the same ends
+  -- holds if two lists of fields differ only in the fields of the statements, which have the same lists before and
+  -- after them
   pub record AreAround (xs ys : List FieldName) (statements : Tree ℕ (maybe body)) : Type 0 where
     pub before : List FieldName
     pub after : List FieldName
@@ -25,7 +26,7 @@ module _ {Q : Type 0} (m n : Meanings ℕ Shape Q) where
   alone : (statements : Tree ℕ (maybe body)) → AreAround (marked_tree m statements) (marked_tree n statements) statements
   alone statements = record { before = []; after = []; first = sym (append-nil (marked_tree m statements)); second = sym (append-nil (marked_tree n statements)) }
 
-  -- the same fields in front of both
+  -- Two lists that differ only in the fields of the statements still do if both get the same prefix.
   in_front : (xs ys front : List FieldName) (statements : Tree ℕ (maybe body)) → AreAround xs ys statements → AreAround (front ++ xs) (front ++ ys) statements
   in_front xs ys front statements h = record {
     before = front ++ h.before;
@@ -38,7 +39,7 @@ module _ {Q : Type 0} (m n : Meanings ℕ Shape Q) where
   followed_by_one zs before inner after back e =
       ap (λ l. l ++ back) e ∙ (append_assoc before (inner ++ after) back ∙ ap (λ l. before ++ l) (append_assoc inner after back))
 
-  -- the same fields after both
+  -- Two lists that differ only in the fields of the statements still do if both get the same suffix.
   followed_by : (xs ys back : List FieldName) (statements : Tree ℕ (maybe body)) → AreAround xs ys statements → AreAround (xs ++ back) (ys ++ back) statements
   followed_by xs ys back statements h = record {
     before = h.before;

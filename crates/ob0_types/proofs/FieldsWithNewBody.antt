@@ -1,5 +1,5 @@
--- The fields of a module in which the statements of one body were replaced, from the result of
--- checking it before.
+-- If the statements of one body were replaced, the fields of the module are its old fields, moved, with the fields of
+-- the new statements between them.
 use Rattle.std.proofs.Common.{◌≡◌, ℕ, [], ◌++◌, map, Some, sym, ap, ◌∙◌}
 use Rattle.ob0_scan.specs.declared.tokens.SameTokens.{SameTokens}
 use Rattle.ob0_tree.specs.Parsed.{named_tree_of, tree_of}
@@ -22,7 +22,8 @@ use Rattle.ob0_types.specs.declared.checked.ModuleTypes.{ModuleTypes}
 
 module _ (old r : Resolution) (types : ModuleTypes) (way : Way) (s : SameTokens) (is : IsBodyReplaced old.module_read r.module_read way s) (were : AreTypesOf old types)
     (named : IsResolution r) (typed : WellTyped (named_tree_of r.module_read)) (none : types.faults.items ≡ []) where
-  -- the fields at the place of the new statements, among the others
+  -- The fields before the new statements, the fields found in them, and the moved fields after them are the module's
+  -- fields.
   pub fields_with_new_body : (f : Listed) (t : Tables) → ((k : ℕ) → declared_in t k ≡ declared_object (named_tree_of r.module_read) k)
       → (statements : Tree ℕ (maybe body)) → statements ≡ body_at way (tree_of r.module_read) → (place : BodyPlace) → body_place s.prefix s.new_suffix (tree_of r.module_read) ≡ Some place
       → f.declared ≡ map (field_now s) types.fields.declared

@@ -1,6 +1,5 @@
--- If a module was well-typed before the statements of one body were replaced, it fits without these
--- statements. A module that fits also fits without the statements of a body, and everything else
--- has the same spelling.
+-- If a module was well-typed before the statements of one body were replaced, the new module fits without the new
+-- statements. A module that fits also fits without the statements of a body, and everything else has the same spelling.
 use Rattle.std.proofs.Common.{◌≡◌, ℕ, zero, suc, ◌+◌, Bool, true, false, ◌&&◌, nat_lt, if◌then◌else◌, List, [], ◌∷◌, ◌++◌, Option, Some, None, refl, sym, ap, ◌∙◌, subst}
 use Rattle.ob0_language_names.specs.DeclaredOnce.{are_distinct, block_names, block_once, declared_once, formals_once, procedure_names, procedure_once, procedures_once, types_once, variables_once}
 use Rattle.ob0_language_names.specs.Names.{Name, Naming, as_names, same_name}
@@ -20,8 +19,7 @@ use Rattle.ob0_types.specs.NewBody.{WereTypesElsewhere}
 use Rattle.ob0_types.specs.OneBody.{OneBody, body_among, body_in_block, body_in_module, body_in_procedure}
 use Rattle.ob0_types.specs.declared.checked.ModuleTypes.{ModuleTypes}
 
--- ---- a block without the statements of one body has the same number of words ARRAY and RECORD,
--- and the same names
+-- ---- a block without the statements of one body has as many words ARRAY and RECORD as the block, and the same names
 
 mutual
   block_count : {N : Type 0} (way : Way) (b : Tree N block) → block_constructors (block_without way b) ≡ block_constructors b
@@ -61,7 +59,7 @@ both_weaker true b c d first second h = ap (λ x. x && d) (first refl) ∙ secon
 both_weaker false b c d first second h = absurd (cc)
 
 module _ {N : Type 0} (naming : Naming N) where
-  -- procedures, if the block's own statements are left out
+  -- If the procedures of a block fit, they also fit when the block's own statements are left out.
   own_left_out : (env : TypeEnvironment N) (k : ℕ) (statements : Tree N (maybe body)) (ps : Tree N (items procedure)) → procedures_fit naming env k statements ps ≡ true → procedures_fit naming env k none ps ≡ true
   unfolding procedures_fit
   own_left_out env k statements end h = refl
@@ -139,7 +137,7 @@ once_left_out way (is_module x b closing) = ap (λ o. same_name x closing && o) 
 abbrev Leads : OneBody → ℕ → Tree ℕ (maybe body) → Type 0
 Leads found closing statements = (found.closing ≡ closing) × (found.statements ≡ statements)
 
--- the same after one more procedure
+-- If a body is found among procedures, the same body is found when another procedure is put before them.
 later_leads : (way : Way) (own : ℕ) (cs : Tree ℕ (maybe constants)) (ts : Tree ℕ (maybe type_names)) (vs : Tree ℕ (maybe variables)) (p : Tree ℕ (item procedure)) (rest : Tree ℕ (items procedure)) (statements : Tree ℕ (maybe body)) (found : OneBody)
     → Leads found (closing_in way own (has_body (declares cs ts vs rest) statements)) (body_in way (has_body (declares cs ts vs rest) statements))
     → Leads found (closing_in (later way) own (has_body (declares cs ts vs (more p rest)) statements)) (body_in (later way) (has_body (declares cs ts vs (more p rest)) statements))
@@ -171,11 +169,11 @@ module _ (low : ℕ) where
 -- ---- the module
 
 module _ (r : Resolution) (types : ModuleTypes) (s : SameTokens) (w : WereTypesElsewhere r types s) where
-  -- the body that the code finds is the one that was replaced
+  -- The body that the code finds is the one whose statements were replaced.
   pub found_there : Leads (body_in_module s.prefix (tree_of r.module_read)) (closing_at w.way (tree_of r.module_read)) (body_at w.way (tree_of r.module_read))
   found_there = subst (λ way. Leads (body_in_module s.prefix (tree_of r.module_read)) (closing_at way (tree_of r.module_read)) (body_at way (tree_of r.module_read))) w.replaced.new_way (body_leads s.prefix (tree_of r.module_read))
 
-  -- the module without it has the same spelling
+  -- Without the statements of the replaced body, the new module has the same spelling as the old one.
   named_alike : named r.module_read.source (without w.way (tree_of r.module_read)) ≡ without w.way (named_tree_of w.old.module_read)
   named_alike =
       let before = w.old.module_read in

@@ -1,5 +1,5 @@
--- A module whose tokens changed in one body: all its other tokens are unchanged, and only listed
--- bodies had faults.
+-- If the tokens of a module changed in one body, all its other tokens have the same spelling and bindings. Only bodies
+-- in the list of faulty bodies had faults.
 use Rattle.std.proofs.Common.{◌≡◌, ℕ, Bool, true, [], ◌∷◌, ◌++◌, length, refl, sym, ap, ◌∙◌}
 use Rattle.std.proofs.lemmas.List.{length-map}
 use Rattle.ob0_scan.specs.Reused.{valueless}
@@ -34,7 +34,8 @@ module _ (r : Resolution) (types : ModuleTypes) (low : ℕ) (w : WereTypes r typ
       let new = r.module_read.source in
       record { written = text_by_word w.old new k k (w.change.same_words k e); value = value_by_word w.old new k k (w.change.same_words k e); bound = w.bound k e }
 
-  -- a property of tokens that are alike holds for each token outside that body
+  -- A property that holds for all tokens with the same spelling and binding holds for each token outside the changed
+  -- body.
   pub alike_outside : (P : ℕ → Type 0) → ((k : ℕ) → IsAlikeAt before r k → P k) → IsResolution r → ModuleOutside P low (tree_of r.module_read)
   alike_outside P holds is =
       module_found P low (tree_of r.module_read)

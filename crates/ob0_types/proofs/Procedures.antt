@@ -1,5 +1,4 @@
--- The procedures of a block, one after the other: the first that doesn't close before a range of
--- tokens.
+-- A loop over the procedures of a block finds the first procedure that doesn't close before a range of tokens.
 use Rattle.std.proofs.Common.{◌≡◌, ◌<◌, ◌≤◌, ℕ, ◌+◌, if◌then◌else◌, nat_lt, List, ◌∷◌, length, drop, get_or, sym, ap, ◌∙◌, lt-ltb, le-ltb}
 use Rattle.std.proofs.lemmas.List.{drop_all, drop_more}
 use Rattle.ob0_tree.specs.Tree.{Tree, body, maybe}

@@ -1,6 +1,5 @@
--- If the tokens of a text have the same spellings as before, the result of checking its module is
--- the same. The module's tree has the same names and numbers, and its faults are at the same
--- tokens, which are in the same order.
+-- If the tokens of a text have the same spellings as before, the result of checking its module is the same. The
+-- module's tree has the same names and numbers. Its faults are at the same tokens, in the same order.
 use Rattle.std.proofs.Common.{◌≡◌, ◌<◌, ◌≤◌, ℕ, ◌+◌, List, [], ◌∷◌, Option, IfSome, is_some, length, map, take, get_or, option_and_then, sym, refl, ap, ◌∙◌, subst, arith}
 use Rattle.std.proofs.Math.ListN.{get_or-map}
 use Rattle.std.proofs.lemmas.List.{get_or_default, length-map, map-set, nil_from_length, take-map}
@@ -46,7 +45,7 @@ swap_mapped f (x ∷ xs) i j =
     sym (map-set f (set l i (get_or l j x)) j (get_or l i x)
     ∙ (λ t. set ((map-set f l i (get_or l j x) ∙ ap (set (map f l) i) (sym (get_or-map f l j x))) t) j (sym (get_or-map f l i x) t)))
 
--- a permutation of a mapped list is the image of a permutation
+-- holds if the list is the image of a permutation of `xs` under `f`
 record IsMadeOf {A B : Type 0} (f : A → B) (xs : List A) (all : List B) : Type 0 where
   pub others : List A
   pub is : all ≡ map f others

@@ -13,14 +13,14 @@ use Rattle.ob0_types.specs.FaultOrder.{AreFirstFaults}
 use Rattle.ob0_types.specs.declared.checked.ModuleTypes.{ModuleTypes}
 use Rattle.ob0_types_fields.specs.Listed.{AreFields, Listed}
 
--- a checked module: its names, its faults, and the table of its declarations
+-- a checked module: its bindings, its faults, and the table of its declarations if there is one
 pub record CheckedModule : Type 0 where
   pub names : Resolution
   pub faults : List Fault
   pub known : Option Tables
 
--- States that a module is checked. It has no fault exactly if it is well-typed, and then the table
--- of its declarations is present. The faults are the first 100, in order.
+-- Holds if the faults are the first 100 of the module, in order, and there are none exactly if the module is
+-- well-typed. A table, if present, has the module's declarations. If there are no faults, the table is present.
 pub record IsChecked (c : CheckedModule) : Type 0 where
   pub resolved : IsResolution c.names
   pub reported : (c.faults ≡ []) ↔ WellTyped (named_tree_of c.names.module_read)
@@ -29,38 +29,38 @@ pub record IsChecked (c : CheckedModule) : Type 0 where
   pub few : length c.faults ≤ max_faults
   pub first : AreFirstFaults c.names c.faults
 
--- states that these are the faults of a checked module, with some table
+-- holds if these are the faults of a checked module with some table of declarations
 abbrev pub AreCheckedFaults : Resolution → List Fault → Type 0
 AreCheckedFaults names faults =
     (known : Option Tables) × IsChecked (record { names = names; faults = faults; known = known })
 
--- a module with the result of checking its types
+-- joins a module to the result of checking its types
 abbrev pub checked_by : Resolution → ModuleTypes → CheckedModule
 checked_by names types = record { names = names; faults = types.faults.items; known = types.known }
 
--- States that this is the result of checking a module's types. If it has no fault, the fields are
--- the module's fields, and each body with a fault is among the faulty ones.
+-- Holds if this is the result of checking a module's types. If the module has no fault, the fields are its fields. Each
+-- body with a fault is listed among the faulty bodies.
 pub record AreTypesOf (names : Resolution) (types : ModuleTypes) : Type 0 where
   pub checked : IsChecked (checked_by names types)
   pub fields : types.faults.items ≡ [] → AreFields names types.fields
   pub faulty : AllPass (is_among types.faulty.items) (faulty_bodies names)
 
--- a table of a module's declarations, which is present if the module is well-typed
+-- Holds if a table, if present, has the module's declarations. If the module is well-typed, the table is present.
 pub record IsKnownWhereTyped (names : Resolution) (known : Option Tables) : Type 0 where
   pub holds : IfSome known (HasDeclarations (named_tree_of names.module_read))
   pub kept : WellTyped (named_tree_of names.module_read) → is_some known ≡ true
 
--- states that these are the fields of a module if it is well-typed
+-- holds if these are the module's fields, or the module isn't well-typed
 abbrev pub AreFieldsWhereTyped : Resolution → Listed → Type 0
 AreFieldsWhereTyped names fields =
     WellTyped (named_tree_of names.module_read) → AreFields names fields
 
--- a module that is well-typed
+-- holds if the module is well-typed and its names are bound
 pub record IsWellTyped (names : Resolution) : Type 0 where
   pub resolved : IsResolution names
   pub well_typed : WellTyped (named_tree_of names.module_read)
 
--- the declarations and the fields of a well-typed module
+-- holds if the module is well-typed and these are its declarations and its fields
 pub record IsKnownOf (names : Resolution) (known : Tables) (fields : Listed) : Type 0 where
   pub well_typed : IsWellTyped names
   pub declarations : HasDeclarations (named_tree_of names.module_read) known

@@ -12,7 +12,7 @@ use Rattle.ob0_scan.specs.declared.fault.Fault.{Fault}
 use Rattle.ob0_scope_table.specs.Resolution.{Resolution, is_of_declarations}
 use Rattle.ob0_types_check.specs.DeclarationFaults.{reported_module}
 
--- the numbers of the codes: of lexemes, of scopes, of types
+-- returns the number of a code; lexical codes come first, then codes of scopes, then codes of types
 abbrev pub code_number : Code → ℕ
 code_number code.TooLong = 1
 code_number code.BadChar = 2
@@ -34,26 +34,27 @@ code_number code.NoField = 21
 code_number code.NotArray = 22
 code_number code.NotRecord = 23
 
--- the order by start and end
+-- compares two faults by the start and then by the end of their spans
 abbrev pub place_cmp : Fault → Fault → Ordering
 place_cmp x y = ordering_then (nat_cmp x.span.start y.span.start) (nat_cmp x.span.end y.span.end)
 
--- the order of faults at one place, by the numbers of their codes
+-- compares two faults by their spans and then by the numbers of their codes
 abbrev pub fault_cmp : Fault → Fault → Ordering
 fault_cmp x y = ordering_then (place_cmp x y) (nat_cmp (code_number x.code) (code_number y.code))
 
--- states that these are the first 100 faults of a list, in that order
+-- holds if `faults` are the first 100 of the found faults in the order of `fault_cmp`
 pub record AreFirstOf (found faults : List Fault) : Type 0 where
   pub all : List Fault
   pub joined : IsPermutation found all
   pub in_order : IsSorted fault_cmp all
   pub first : faults ≡ take max_faults all
 
--- All faults of a module, by LANGUAGE.md, Faults of scopes and types: undeclared names and faults
--- of types, and duplicate declarations and wrong closing names. The first 100 are reported.
+-- Returns all faults of a module, according to LANGUAGE.md, Faults of scopes and types. These are the undeclared names
+-- and faults of types, then the duplicate declarations and wrong closing names. Only the first 100 in order are
+-- reported.
 abbrev pub faults_in : Resolution → List Fault
 faults_in r = reported_module r ++ filter is_of_declarations r.faults
 
--- states that these are the first of the module's faults
+-- holds if these are the first 100 faults of the module, in order
 abbrev pub AreFirstFaults : Resolution → List Fault → Type 0
 AreFirstFaults r faults = AreFirstOf (faults_in r) faults

@@ -10,24 +10,24 @@ use Rattle.ob0_types.specs.declared.meant.Identified.{Identified}
 use Rattle.ob0_types.specs.declared.meant.Meant.{Meant}
 use Rattle.ob0_types.specs.declared.meant.Meant.TheVariants.{Name, Field}
 
--- an identifier that is bound to a declaration
+-- returns the identifier of a bound name with its meaning: the declaration
 abbrev pub name_meant : named.Named → Identified
 name_meant n = record { token = n.token; means = Name n.ordinal }
 
--- an identifier of a field
+-- returns the identifier of a field with its meaning: the field
 abbrev pub field_meant : FieldName → Identified
 field_meant x = record { token = x.token; means = Field x.owner }
 
--- the name, or else the field
+-- returns the meaning of the name if there is one, otherwise the meaning of the field
 abbrev pub meant_by : Option named.Named → Option FieldName → Option Identified
 meant_by (Some n) f = Some (name_meant n)
 meant_by None f = option_map field_meant f
 
--- the meaning of the identifier at a place
+-- returns the identifier at a byte offset with its meaning; None if there is no name and no field
 abbrev pub meant_at : Resolution → ℕ → Option Identified
 meant_at r offset = meant_by (name_on r.module_read offset) (field_at r offset)
 
--- states that the meaning is a field
+-- holds if the meaning is a field
 abbrev pub IsField : Meant → Type 0
 IsField (Name ordinal) = ⊥
 IsField (Field k) = ⊤

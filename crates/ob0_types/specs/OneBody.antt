@@ -13,24 +13,24 @@ use Rattle.ob0_types.specs.CheckedModules.{AreTypesOf}
 use Rattle.ob0_types.specs.declared.checked.ModuleTypes.{ModuleTypes}
 use Rattle.ob0_types.specs.declared.one_body.Body.{Body}
 
--- the statements of a block, with the block's closing name
+-- a body: the statements of a block and the token of the block's closing name
 pub record OneBody : Type 0 where
   pub closing : ℕ
   pub statements : Tree ℕ (maybe body)
 
--- a body of the code
+-- returns the body that a value of the code stands for
 abbrev pub body_seen : Body → OneBody
 body_seen b = record { closing = b.closing; statements = body_of b.statements.now }
 
--- the body that contains the range of tokens from `low` upwards
+-- Returns the body that contains the tokens from index `low` upwards, if one body contains them.
 abbrev mutual
-  -- the body of a block with this closing name, or one in it
+  -- returns the body of the block with closing name `own`, or the body of a procedure in that block
   pub body_in_block : ℕ → ℕ → Tree ℕ block → OneBody
   body_in_block low own (has_body (declares cs ts vs ps) statements) =
       body_among low own ps statements
 
-  -- the body of the first procedure that doesn't close before the range, or one in it; if all close
-  -- before it, the body of the block
+  -- Returns the body of the first procedure that doesn't close before `low`, or the body of a procedure in that
+  -- procedure. If all procedures close before `low`, returns the body of their block.
   pub body_among : ℕ → ℕ → Tree ℕ (items procedure) → Tree ℕ (maybe body) → OneBody
   body_among low own end statements = record { closing = own; statements = statements }
   body_among low own (more p ps) statements =
@@ -38,22 +38,21 @@ abbrev mutual
       then body_among low own ps statements
       else body_in_procedure low p
 
-  -- the body of a procedure, or one in it
+  -- returns the body of the procedure, or the body of a procedure within this procedure
   pub body_in_procedure : ℕ → Tree ℕ (item procedure) → OneBody
   body_in_procedure low (declares_procedure x fs b closing) = body_in_block low closing b
 
--- the body of a module, or of a procedure in it
+-- returns the body of the module, or the body of a procedure within the module
 abbrev pub body_in_module : ℕ → Tree ℕ module_text → OneBody
 body_in_module low (is_module x b closing) = body_in_block low closing b
 
--- a module over the tokens of another text
+-- replaces the tokens of a module by the tokens of another text; the tree is unchanged
 abbrev pub over_text : Scanned → Parsed → Parsed
 over_text source m =
     record { source = source; name = m.name; block = m.block; closing = m.closing }
 
--- States that this is the result of checking a module before some of its tokens, from `low`
--- upwards, changed. They are in one body; all other tokens have the same spellings and bindings as
--- before.
+-- Holds if `types` is the result of checking the module before tokens with indexes from `low` upwards changed. The
+-- changed tokens are in one body. All other tokens have the same spellings and bindings as before.
 pub record WereTypes (r : Resolution) (types : ModuleTypes) (low : ℕ) : Type 0 where
   pub high : ℕ
   pub old : Scanned

@@ -1,13 +1,12 @@
-//! Checks a module, and gives the types, values and fields of a well-typed one.
+//! Checks the scopes and types of a module, and returns the types, values and fields of a well-typed module.
 //!
-//! `ModuleTypes` is the complete result of checking. It borrows nothing, so it can be kept next to
-//! the module's bindings. `Checked` joins it to them: `check` makes a `Checked` that owns its part;
-//! `Checked::from_parts` makes one from a part that is kept elsewhere, without allocating.
+//! `ModuleTypes` is the complete result of checking. It borrows nothing, so it can be kept next to the module's
+//! bindings. A `Checked` joins this result to the bindings. `check` makes a `Checked` that owns the result.
+//! `Checked::from_parts` makes one from a result that is kept elsewhere, without allocating.
 //!
-//! Faults are sorted by (start, end, code). The lists of fields are made for a module that fits
-//! (`known_fields`), or from the lists of the previous text if one body changed (`fields_again`).
-//! The invariant of `Checked` states that they are the module's fields if it has no fault. So the
-//! value of a `Checked` doesn't contain them.
+//! Faults are sorted by (start, end, code). The lists of fields are made only for a well-typed module (`known_fields`).
+//! If one body changed, they are made from the lists of the previous text (`fields_again`). The invariant of `Checked`
+//! states that they are the module's fields if it has no fault. So the value of a `Checked` doesn't contain them.
 
 ghost use Rattle.ob0_scope_table.specs.Resolution.{is_of_declarations};
 ghost use Rattle.ob0_types.specs.CheckedModules.{AreFieldsWhereTyped, AreTypesOf, IsChecked, IsKnownWhereTyped, checked_by};
@@ -31,13 +30,13 @@ use std::alloc::{AllocError, Global};
 use std::borrow::Cow;
 use std::marker::Model;
 
-/// If more bodies than this had faults, all are checked again, because searching the list of bodies
-/// would take as many steps.
+/// The number of faulty bodies above which all bodies are checked again. Searching a longer list for each body would
+/// take as many steps.
 const MOST_FAULTY: usize = 32;
 
-/// The result of checking a module. If the module is well-typed, `known` has its declarations and
-/// `fields` its fields. `faults` has the faults of its scopes and types. `faulty` has the bodies
-/// with a fault of types, by their closing names. It borrows nothing.
+/// The result of checking a module. If the module is well-typed, `known` has its declarations and `fields` its fields.
+/// `faults` has the first 100 faults of its scopes and types. `faulty` has the closing names of the bodies with a fault
+/// of types, as token indexes. The result borrows nothing.
 #[derive(Drop)]
 pub struct ModuleTypes {
     pub known: Option<DeclarationTable>,
@@ -46,7 +45,7 @@ pub struct ModuleTypes {
     pub faulty: Vec<usize>,
 }
 
-/// A module that was checked, with its faults.
+/// A module with the result of checking it, such as its faults.
 #[derive(Drop)]
 pub struct Checked<'t> {
     resolved: &'t Resolved<'t>,
@@ -69,7 +68,7 @@ impl<'t> Model for Checked<'t> {
     ghost invariant = { λ c. AreTypesOf c.resolved.now (cow_value c.types) };
 }
 
-/// A valid module with its table of declarations and its fields.
+/// A well-typed module with its table of declarations and its fields.
 #[derive(Drop)]
 pub struct WellTyped<'t> {
     checked: &'t Checked<'t>,
@@ -93,14 +92,15 @@ impl<'t> Model for WellTyped<'t> {
     ghost invariant = { λ w. IsKnownOf w.checked.now.names w.known.now w.fields.now };
 }
 
-/// A type of a module, with the table of its parts.
+/// A type of a module, as an index (`of`) into the module's table of types (`known`).
 #[derive(Clone, Copy)]
 pub struct Shape<'t> {
     pub known: &'t DeclarationTable,
     pub of: TypeId,
 }
 
-/// Checks the types of a module. The result has the faults of its scopes and its types.
+/// Checks the types of a module. The result has the faults of its scopes and of its types. Fails only if an allocation
+/// fails.
 pub fn check<'t>(alloc: Global, resolved: &'t Resolved<'t>) -> Result<Checked<'t>, AllocError>
     ensures names { IfOk result (λ c. c.names ≡ resolved.now) }
     ensures checked { IfOk result IsChecked }
@@ -109,22 +109,22 @@ pub fn check<'t>(alloc: Global, resolved: &'t Resolved<'t>) -> Result<Checked<'t
     Ok(Checked::new(resolved, types))
 }
 
-/// Returns the result of checking a module. It borrows nothing, so that it can be kept next to the
-/// module's bindings.
+/// Returns the result of checking a module. The result borrows nothing, so that it can be kept next to the module's
+/// bindings.
 pub fn types_of<'t>(alloc: Global, resolved: &'t Resolved<'t>) -> Result<ModuleTypes, AllocError>
     ensures { IfOk result (AreTypesOf resolved.now) }
 {
     no_fault_in_modules();
-    // The proof needs the contract of this call.
+    // The contract of this call gives the proof the invariant of the module.
     let _module = resolved.module();
     let report = report_faults(alloc, resolved)?;
     let fields = known_fields(alloc, resolved, &report.known)?;
     types_reported(resolved, report, fields)
 }
 
-/// Returns the result of checking a module after some of its tokens, all within one body, changed.
-/// `low` is the first of them, and `before` the result before the change. Other bodies are checked
-/// again only if they had faults, and only the fields of that body are searched for again.
+/// Returns the result of checking a module after some of its tokens, all within one body, changed. `low` is the index
+/// of the first token that changed, and `before` is the result before the change. Other bodies are checked again only
+/// if they had faults, and only the fields of that body are searched for again.
 pub fn types_again<'t>(
     alloc: Global,
     resolved: &'t Resolved<'t>,
@@ -146,9 +146,9 @@ pub fn types_again<'t>(
     types_reported(resolved, report, fields)
 }
 
-/// Returns the result of checking a module after the statements of one body were replaced, perhaps
-/// with a different number of tokens. If the module was valid, only its declarations and that body
-/// are checked again, and only the fields of that body are searched for again.
+/// Returns the result of checking a module after the statements of one body were replaced, perhaps by a different
+/// number of tokens. If the module was valid, only its declarations and that body are checked again, and only the
+/// fields of that body are searched for again.
 pub fn types_with_new_body<'t>(
     alloc: Global,
     resolved: &'t Resolved<'t>,
@@ -164,8 +164,8 @@ pub fn types_with_new_body<'t>(
     types_of(alloc, resolved)
 }
 
-/// Returns the result of checking a module that was valid before the statements of one body were
-/// replaced.
+/// Returns the result of checking a module after the statements of one body were replaced. The module must have been
+/// valid before.
 fn types_by_body<'t>(
     alloc: Global,
     resolved: &'t Resolved<'t>,
@@ -183,7 +183,7 @@ fn types_by_body<'t>(
     types_reported(resolved, report, fields)
 }
 
-/// Makes the result of checking a module from its report and, if it is well-typed, its fields.
+/// Returns the result of checking a module, given its report and, if it is well-typed, its fields.
 fn types_reported<'t>(
     resolved: &'t Resolved<'t>,
     report: Report,
@@ -195,7 +195,7 @@ fn types_reported<'t>(
 {
     modules_fit();
     no_fault_in_modules();
-    // The proof needs the contract of this call.
+    // The contract of this call gives the proof the invariant of the module.
     let _module = resolved.module();
     let Report {
         faults,
@@ -211,7 +211,8 @@ fn types_reported<'t>(
     })
 }
 
-/// Returns the fields of a well-typed module.
+/// Returns the fields of a well-typed module. `known` is the table of its declarations. If there is no table, the
+/// module isn't well-typed and the list is empty.
 fn known_fields<'t>(
     alloc: Global,
     resolved: &'t Resolved<'t>,
@@ -220,7 +221,7 @@ fn known_fields<'t>(
     requires { IsKnownWhereTyped resolved.now known.now }
     ensures { IfOk result (AreFieldsWhereTyped resolved.now) }
 {
-    // The proof needs the contract of this call.
+    // The contract of this call gives the proof the invariant of the module.
     let _module = resolved.module();
     match known {
         None => Ok(FieldList::none(alloc)),
@@ -231,8 +232,9 @@ fn known_fields<'t>(
     }
 }
 
-/// Returns the fields of a well-typed module, from its fields before some of its tokens changed,
-/// all within one body.
+/// Returns the fields of a well-typed module after some of its tokens, all within one body, changed. If the module was
+/// valid before, only the fields of that body are searched for again. If the module isn't well-typed now, the result
+/// may be any list.
 fn fields_again<'t>(
     alloc: Global,
     resolved: &'t Resolved<'t>,
@@ -262,8 +264,8 @@ fn fields_again<'t>(
     known_fields(alloc, resolved, known)
 }
 
-/// Returns the fields of a well-typed module, from its fields before the statements of one body
-/// were replaced.
+/// Returns the fields of a well-typed module after the statements of one body were replaced. The module must have been
+/// valid before. Its old fields are reused if possible. If the module isn't well-typed now, the result may be any list.
 fn fields_with_new_body<'t>(
     alloc: Global,
     resolved: &'t Resolved<'t>,
@@ -294,8 +296,8 @@ fn fields_with_new_body<'t>(
     Ok(fields)
 }
 
-/// Returns the first 100 faults of scopes and types, sorted by start, end and code. `of_types`
-/// already has the undeclared names.
+/// Returns the first 100 faults of scopes and types, sorted by start, end and code. `of_types` has the faults of types
+/// and the undeclared names; the other faults of scopes are added.
 fn faults_of<'t>(resolved: &'t Resolved<'t>, of_types: Vec<Fault>) -> Result<Vec<Fault>, AllocError>
     ensures none { IfOk result (λ faults. (faults.items ≡ [])
         ↔ (of_types.items ++ filter is_of_declarations resolved.now.faults ≡ [])) }
@@ -310,7 +312,7 @@ fn faults_of<'t>(resolved: &'t Resolved<'t>, of_types: Vec<Fault>) -> Result<Vec
     Ok(faults)
 }
 
-/// Appends duplicate declarations and wrong closing names.
+/// Appends the duplicate declarations and wrong closing names among the faults of scopes.
 fn add_declarations(faults: &mut Vec<Fault>, scopes: &[Fault]) -> Result<(), AllocError>
     ensures { OnOk result
         (faults.new.items ≡ faults.old.items ++ filter is_of_declarations scopes.now) }
@@ -332,7 +334,7 @@ fn is_of_declarations(fault: &Fault) -> bool
 impl<'t> Checked<'t> {
     ghost use Rattle.ob0_types.specs.CheckedModules.{AreTypesOf, IsChecked, checked_by};
 
-    /// Joins a module to the result of checking it.
+    /// Joins a module to the result of checking it, and owns this result.
     fn new(resolved: &'t Resolved<'t>, types: ModuleTypes) -> Checked<'t>
         requires { AreTypesOf resolved.now types }
         ensures { result ≡ checked_by resolved.now types }
@@ -343,7 +345,7 @@ impl<'t> Checked<'t> {
         }
     }
 
-    /// Joins a module to the result of checking it, which is kept elsewhere.
+    /// Joins a module to the result of checking it, and borrows this result.
     pub fn from_parts(resolved: &'t Resolved<'t>, types: &'t ModuleTypes) -> Checked<'t>
         requires { AreTypesOf resolved.now types.now }
         ensures { result ≡ checked_by resolved.now types.now }
@@ -354,7 +356,7 @@ impl<'t> Checked<'t> {
         }
     }
 
-    /// Returns the result of checking, without the module.
+    /// Returns the result of checking the module.
     fn types(&self) -> &ModuleTypes
         ensures found { checked_by self.now.names result.now ≡ self.now }
         ensures types { AreTypesOf self.now.names result.now }
@@ -365,7 +367,7 @@ impl<'t> Checked<'t> {
         }
     }
 
-    /// Returns the module with its names bound.
+    /// Returns the module with its bindings.
     pub fn resolved(&self) -> &'t Resolved<'t>
         ensures { result.now ≡ self.now.names }
     {
@@ -380,7 +382,7 @@ impl<'t> Checked<'t> {
         self.types().faults.as_slice()
     }
 
-    /// Returns the module if it has no fault.
+    /// Returns the module as a well-typed one. Returns None if it has a fault.
     pub fn well_typed(&self) -> Option<WellTyped<'_>>
         ensures { MatchOption result (self.now.faults ≡ [] → ⊥) (λ w. w ≡ self.now.names) }
     {
@@ -414,14 +416,14 @@ impl<'t> WellTyped<'t> {
     ghost use Rattle.ob0_language_types.specs.Typing.{type_declared};
     ghost use Rattle.ob0_language_values.specs.Scalars.{scalar_value};
 
-    /// Returns the checked module, which has no faults.
+    /// Returns the module with the result of checking it, which has no faults.
     pub fn checked(&self) -> &'t Checked<'t>
         ensures { result.now.names ≡ self.now }
     {
         self.checked
     }
 
-    /// Returns the module with its names bound.
+    /// Returns the module with its bindings.
     pub fn resolved(&self) -> &'t Resolved<'t>
         ensures value { result.now ≡ self.now }
         ensures well_typed { IsWellTyped self.now }
@@ -429,7 +431,7 @@ impl<'t> WellTyped<'t> {
         self.checked.resolved()
     }
 
-    /// Returns the table of the module: the object of each declaration, by its ordinal
+    /// Returns the table of the module's declarations. It has the object of each declaration by its ordinal
     /// (`DeclarationTable::object`), and the parts of types.
     pub fn declarations(&self) -> &'t DeclarationTable
         ensures { HasDeclarations (named_tree_of self.now.module_read) result.now }
@@ -437,20 +439,20 @@ impl<'t> WellTyped<'t> {
         self.known
     }
 
-    /// Returns the fields of the module.
+    /// Returns the list of all fields in the module.
     pub fn fields(&self) -> &'t FieldList
         ensures { AreFields self.now result.now }
     {
         self.fields
     }
 
-    /// Returns the value of a constant from a CONST section, by its ordinal. Returns None for any
-    /// other declaration, including TRUE and FALSE.
+    /// Returns the value of the constant with this ordinal. Returns None for a declaration that isn't in a CONST
+    /// section, including TRUE and FALSE.
     pub fn constant(&self, declaration: usize) -> Option<Scalar>
         ensures { option_map scalar_value result
             ≡ value_of_constant (named_tree_of self.now.module_read) declaration }
     {
-        // The proof needs the contract of this call.
+        // The contract of this call gives the proof the invariant of the module.
         let _module = self.resolved();
         let value = self.declarations().constant(declaration);
         if declaration < PREDECLARED {
@@ -460,9 +462,8 @@ impl<'t> WellTyped<'t> {
         }
     }
 
-    /// Returns the type of a declaration by its ordinal, if it is a type, a variable, a parameter
-    /// or a constant. Returns None for a procedure, and for a number that isn't the ordinal of a
-    /// declaration.
+    /// Returns the type of the declaration with this ordinal. The declaration is a type, a variable, a parameter or a
+    /// constant. Returns None for a procedure, and for a number that isn't the ordinal of a declaration.
     pub fn shape(&self, declaration: usize) -> Option<Shape<'t>>
         ensures { option_map shape_of result
             ≡ type_declared (declared_object (named_tree_of self.now.module_read) declaration) }
@@ -478,8 +479,8 @@ impl<'t> Shape<'t> {
     ghost use Rattle.ob0_types_table.specs.Parts.{PartsAreCounted, has_parts, is_known_type, parts_shape};
     ghost use Rattle.ob0_types.specs.DeclaredShapes.{shape_of};
 
-    /// Returns the parts of the type; the types of the parts are in the same table. The result is
-    /// `Faulty` exactly if this isn't a type of the module.
+    /// Returns the parts of the type. The types of the parts are in the same table. The result is `Faulty` exactly if
+    /// this isn't a type of the module.
     pub fn parts(&self) -> Parts<'t>
         ensures shape { parts_shape (shapes_of self.now.known.now) result ≡ shape_of self.now }
         ensures counted { PartsAreCounted (shapes_of self.now.known.now) result }

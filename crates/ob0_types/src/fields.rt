@@ -1,5 +1,4 @@
-//! The fields of a well-typed module: the field at a place, its identifiers, and where its record
-//! declares it.
+//! The fields of a well-typed module: finds the field at a place, its identifiers, and its declaration.
 
 ghost use Rattle.std.specs.Prelude.{◌≡◌, IfOk, IfSome, length};
 ghost use Rattle.ob0_tree.specs.Order.{AreIdentifiers, Ascending, IsIdentifierToken};
@@ -9,7 +8,8 @@ use crate::checked::WellTyped;
 use ob0_types_fields::FieldName;
 use std::alloc::{AllocError, Global};
 
-/// Returns the field identifier at a place, which is in the identifier or at its end.
+/// Returns the field identifier at a place, as a byte offset. The place may be within the identifier or at its end.
+/// Returns None if there is no field.
 pub fn field_at(well_typed: &WellTyped<'_>, offset: usize) -> Option<FieldName>
     ensures value { result ≡ field_at well_typed.now offset }
     ensures are_identifiers { IfSome result
@@ -19,8 +19,8 @@ pub fn field_at(well_typed: &WellTyped<'_>, offset: usize) -> Option<FieldName>
     well_typed.fields().at(names.tokens(), offset)
 }
 
-/// Returns the tokens of the field with this name in a record, in text order: the declaring one and
-/// all selecting ones.
+/// Returns the tokens of the field with this name in a record, in text order. These are the declaring identifier and
+/// all identifiers that select the field. `owner` is the ordinal of the record.
 pub fn field_tokens(
     alloc: Global,
     well_typed: &WellTyped<'_>,
@@ -41,7 +41,8 @@ pub fn field_tokens(
     Ok(tokens)
 }
 
-/// Returns the token that declares the field with this name in a record.
+/// Returns the token that declares the field with this name in the record with ordinal `owner`. Returns None if the
+/// record has no such field.
 pub fn declaring_field(well_typed: &WellTyped<'_>, owner: usize, name: &str) -> Option<usize>
     ensures { result ≡ declaring_field well_typed.now.module_read owner name.now }
 {
@@ -49,8 +50,8 @@ pub fn declaring_field(well_typed: &WellTyped<'_>, owner: usize, name: &str) -> 
     well_typed.fields().declaring(names.tokens(), owner, name)
 }
 
-/// Returns the position of the field with this name among the fields of a record, counted from 0.
-/// Returns None if the record has no such field.
+/// Returns the position of the field with this name among the fields of a record, counted from 0. `owner` is the
+/// ordinal of the record. Returns None if the record has no such field.
 pub fn field_place(well_typed: &WellTyped<'_>, owner: usize, name: &str) -> Option<usize>
     ensures { result ≡ field_place well_typed.now.module_read owner name.now }
 {

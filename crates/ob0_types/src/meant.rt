@@ -1,6 +1,6 @@
-//! Finds the meaning of the identifier at a place: a name of the module, or else a field.
+//! Finds the meaning of the identifier at a place. It is a name of the module or a field.
 //!
-//! Hover, declarations, occurrences and renaming match on the result of `meant_at`.
+//! The code for hover, declarations, occurrences and renaming matches on the result of `meant_at`.
 
 ghost use Rattle.std.specs.Prelude.{◌≡◌, IfSome};
 ghost use Rattle.ob0_tree.specs.Order.{IsIdentifierToken};
@@ -10,24 +10,25 @@ use crate::checked::WellTyped;
 use crate::fields::field_at;
 use ob0_scope::name_at;
 
-/// The meaning of an identifier.
+/// The meaning of an identifier: a declaration or a field.
 #[derive(Clone, Copy, PartialEq, Eq)]
 pub enum Meant {
-    /// A declaration, which may be predeclared, by its ordinal.
+    /// The ordinal of a declaration, which may be predeclared.
     Name(usize),
-    /// A field, by the ordinal of its record.
+    /// The ordinal of the record that declares the field.
     Field(usize),
 }
 
-/// An identifier's token and meaning.
+/// An identifier with its token and meaning.
 #[derive(Clone, Copy, PartialEq, Eq)]
 pub struct Identified {
     pub token: usize,
     pub means: Meant,
 }
 
-/// Returns the identifier at a place, which is in the identifier or at its end, and its meaning.
-/// The closing name of a procedure means the procedure. Returns None at the module's name.
+/// Returns the identifier at a place, as a byte offset, and its meaning. The place may be within the identifier or at
+/// its end. The closing name of a procedure means the procedure. Returns None at the module's name, and if there is no
+/// identifier.
 pub fn meant_at(well_typed: &WellTyped<'_>, offset: usize) -> Option<Identified>
     ensures value { result ≡ meant_at well_typed.now offset }
     ensures are_identifiers { IfSome result (λ x. IsField x.means

@@ -7,14 +7,15 @@ ghost use Rattle.ob0_types.specs.OneBody.{body_in_block, body_in_module, body_in
 
 use ob0_tree::{Block, Module, Procedure, Statement};
 
-/// The statements of a block, with the block's closing name.
+/// A body: the statements of a block and the token of the block's closing name.
 #[derive(Clone, Copy)]
 pub(crate) struct Body<'t> {
     pub(crate) closing: usize,
     pub(crate) statements: &'t Option<Vec<Statement>>,
 }
 
-/// Returns the body that contains the range of tokens starting at `low`, if one body does.
+/// Returns the body that contains the tokens starting at index `low`, if one body contains them. Otherwise the result
+/// is another body of the module.
 pub(crate) fn body_from<'t>(read: &'t Module<'t>, low: usize) -> Body<'t>
     ensures { body_seen result ≡ body_in_module low (tree_of read.now) }
 {

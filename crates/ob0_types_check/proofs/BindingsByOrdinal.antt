@@ -1,5 +1,5 @@
--- The names that a module's declarations bind and the labels in its numbered tree are bound to the
--- same objects, ordinal by ordinal. `Ordered` pairs both bindings with their ordinals and objects.
+-- The names that a module's declarations bind and the labels in its numbered tree are bound to the same objects,
+-- ordinal by ordinal. `Ordered` pairs the bindings of names and of labels with their ordinals and objects.
 use Rattle.std.proofs.Common.{◌≡◌, ℕ, suc, ◌+◌, true, ◌&&◌, List, [], ◌∷◌, ◌++◌, length, map, take, Option, Some, None, option_map, option_and_then, if◌then◌else◌, refl, sym, ap, ◌∙◌, subst, subst₂, le_refl, le_of_lt, append_assoc, arith, length-append, lit<}
 use Rattle.std.proofs.lemmas.Bool.{and_parts}
 use Rattle.std.proofs.Math.Seq.{take-append_seam}
@@ -21,7 +21,7 @@ use Rattle.ob0_language_types.proofs.Literals.{some_inverse}
 use Rattle.ob0_language_types.proofs.TypesByOrdinal.{TypeNoted, TypedBelow, TypedBelow-weaken, TypedWithin, bind_typed-by_name, bind_typed-by_ordinal, block_fits-agrees, declarations_typed, label_typed, label_typed-formals, noted_parameters, noted_parameters-within, parameters_typed, typed_by_name, typed_by_ordinal, typed_names, typed_outermost, typed_scope}
 use Rattle.ob0_types_check.proofs.BoundModules.{held}
 
--- states that the ordinals are those below n down to k, each once, the latest first
+-- holds if the bindings have the ordinals from `k` up to `n`, without `n`, each once and the latest first
 abbrev pub InOrder : ℕ → ℕ → TypeNoted Name → Type 0
 InOrder k n [] = n ≡ k
 InOrder k n (b ∷ noted) = (n ≡ suc b.ordinal) × InOrder k b.ordinal noted
@@ -38,7 +38,8 @@ by_ordinal-append : (later first : TypeNoted Name) → typed_by_ordinal (later +
 by_ordinal-append [] first = refl
 by_ordinal-append (b ∷ later) first = λ i. (declared b.ordinal, b.object) ∷ by_ordinal-append later first i
 
--- bindings by name and by label of the ordinals below n down to k, to the same objects
+-- bindings of names and bindings of labels that come from one list, which has the ordinals from `k` up to `n`, without
+-- `n`
 pub record Ordered (k n : ℕ) (names : TypeEnvironment Name) (labels : TypeEnvironment Label) : Type 0 where
   pub noted : TypeNoted Name
   pub by_name : names ≡ typed_by_name noted
@@ -53,7 +54,7 @@ ordered-append k i n later first later_labels first_labels a b = record {
   in_order = in_order-append k i n a.noted b.noted a.in_order b.in_order;
 }
 
--- the bindings of a scope, split into the names just declared and the rest
+-- a list of bindings split into the bindings of the names just declared and the rest, which belongs to the scope before
 record Split (k n : ℕ) (scope : Scope Name) (all : TypeNoted Name) : Type 0 where
   first : TypeNoted Name
   rest : TypeNoted Name
@@ -116,7 +117,7 @@ since-ordered k n noted all s = record {
   in_order = s.in_order;
 }
 
--- splits off a block's constants, types and variables
+-- Splits the bindings after a block's constants, types and variables into theirs and the rest.
 opened : (noted all : TypeNoted Name) (k : ℕ) (b : Tree Name block) → typed_scope all ≡ procedures_scope k b (typed_scope noted) → Split k (first_procedure k b) (typed_scope noted) all
 opened noted all k (has_body (declares cs ts vs ps) statements) e =
     let b : Tree Name block = has_body (declares cs ts vs ps) statements in
@@ -127,7 +128,7 @@ opened noted all k (has_body (declares cs ts vs ps) statements) e =
     split-then k (first_variable k b) (first_procedure k b) scope (variables_scope k b scope) all v
     (split-then k (first_type k b) (first_variable k b) scope (types_scope k b scope) v.rest t c)
 
--- if a value is given by names, it is also given by labels
+-- If the bindings by names give a value, the bindings by labels give the same value.
 given-both : {X Y Z : Type 0} (p : X → Y) (q : X → Z) (P : X → Type 0) (r : Option Y) (s : Option Z) → Agree p q P r s → (y : Y) → r ≡ Some y → (x : X) × P x × (p x ≡ y) × (s ≡ Some (q x))
 given-both {X} {Y} {Z} p q P r s (a, e, e', holds) y h = go a e' holds (sym e ∙ h)
   where
@@ -162,12 +163,12 @@ none-listed : (noted : TypeNoted Name) (j k : ℕ) → Ordered k k (procedures_b
 unfolding block_bindings
 none-listed noted j k = record { noted = []; by_name = refl; by_label = refl; in_order = refl }
 
--- the parameters of a procedure are in order
+-- Binding the parameters of a procedure keeps the ordinals in order.
 parameters-ordered : (k i : ℕ) (ps : List (TypedParameter Name)) (noted : TypeNoted Name) → InOrder k i noted → InOrder k (after_names i (typed_names ps)) (noted_parameters i ps noted)
 parameters-ordered k i [] noted h = h
 parameters-ordered k i (p ∷ ps) noted h = parameters-ordered k (suc i) ps (record { name = p.name; ordinal = i; object = a_variable p.formal.shape } ∷ noted) (refl, h)
 
--- adds a procedure's name
+-- adds the binding of a procedure's name
 abbrev named_procedure : ℕ → Name → List (TypedParameter Name) → TypeNoted Name → TypeNoted Name
 named_procedure k x ps noted = record { name = x; ordinal = k; object = a_procedure (map (λ p. p.formal) ps) } ∷ noted
 
@@ -186,7 +187,7 @@ heading-ordered k x ps = record {
   in_order = parameters-ordered k (suc k) ps (named_procedure k x ps []) (refl, refl);
 }
 
--- a block and its numbered tree have the same ordinals of constructors
+-- A block and its numbered tree give the same ordinals to their words ARRAY and RECORD.
 variables-same : (noted : TypeNoted Name) (j k : ℕ) (b : Tree Name block) → after_variables j (relabel_block as_names (as_label as_names) (typed_scope noted) k b) ≡ after_variables j b
 variables-same noted j k (has_body (declares cs ts vs ps) statements) =
     let b : Tree Name block = has_body (declares cs ts vs ps) statements in
@@ -194,7 +195,7 @@ variables-same noted j k (has_body (declares cs ts vs ps) statements) =
     λ i. j + (ap types_constructors (types-section as_names (as_label as_names) (types_scope k b scope) (first_type k b) ts) ∙ types_constructors-relabel as_names (as_label as_names) (types_scope k b scope) (first_type k b) (section_types ts)) i
     + (ap variables_constructors (variables-section as_names (as_label as_names) (variables_scope k b scope) (first_variable k b) vs) ∙ variables_constructors-relabel as_names (as_label as_names) (variables_scope k b scope) (first_variable k b) (section_variables vs)) i
 
--- the parts of a procedure that fits
+-- the parts of a procedure that fits, and the facts about each
 record Procedure (noted : TypeNoted Name) (j : ℕ) (statements : Tree Name (maybe body)) (x : Name) (fs : Tree Name (maybe formals)) (b : Tree Name block) (closing : Name) (rest : Tree Name (items procedure)) : Type 0 where
   listed : List (TypedParameter Name)
   typed : typed_parameters as_names (typed_by_name noted) j (formal_sections fs) ≡ Some listed
@@ -294,13 +295,13 @@ mutual
 predeclared-below : TypedBelow 7 (typed_outermost as_names)
 predeclared-below = (lit< tt, (lit< tt, (lit< tt, (lit< tt, (lit< tt, (lit< tt, (lit< tt, tt)))))))
 
--- the block of a module that fits
+-- The bindings of the names and of the labels in the block of a module that fits are in the order of their ordinals.
 pub module-block : (x : Name) (b : Tree Name block) (closing : Name) → fits_over as_names (is_module x b closing) ≡ true
     → Ordered 7 (after_block 7 b) (block_bindings as_names (outermost as_names) 0 b) (block_bindings as_labels (outermost as_labels) 0 (relabel_block as_names (as_label as_names) (typed_scope (typed_outermost as_names)) 7 b))
 unfolding fits_over
 module-block x b closing h = block-ordered (typed_outermost as_names) 0 7 predeclared-below b h
 
--- all bindings of a module that fits, with the predeclared names
+-- All bindings of a module that fits, including the predeclared names, are in the order of their ordinals.
 pub module-ordered : (m : Tree Name module_text) → fits_over as_names m ≡ true → Ordered 0 (after_block 7 (module_block m)) (module_bindings as_names m) (module_bindings as_labels (numbered m))
 module-ordered (is_module x b closing) h =
     ordered-append 0 7 (after_block 7 b) (block_bindings as_names (outermost as_names) 0 b) (outermost as_names) (block_bindings as_labels (outermost as_labels) 0 (relabel_block as_names (as_label as_names) (typed_scope (typed_outermost as_names)) 7 b)) (outermost as_labels)

@@ -1,6 +1,6 @@
--- The bindings made by declarations, ordinal by ordinal, agree with the meanings of the ordinals.
--- The bindings are in the order of their ordinals, the latest first, so the last binding has the
--- first ordinal, and so on (`BindingsKnown`). So names needn't be looked up.
+-- The bindings made by declarations agree with the meanings of their ordinals. The bindings are in the order of their
+-- ordinals, the latest first (`BindingsKnown`). So the ordinal of a binding follows from its position, and no name has
+-- to be looked up.
 use Rattle.std.proofs.Common.{◌≡◌, ℕ, suc, ◌<◌, ◌≤◌, false, List, [], ◌∷◌, ◌++◌, length, Option, Some, None, slice_index_or, refl, sym, ap, ◌∙◌, subst, append_assoc, arith}
 use Rattle.ob0_language_names.specs.Names.{Name}
 use Rattle.ob0_language_names.specs.Scopes.{Scope, after_names, declare_names}
@@ -15,8 +15,8 @@ use Rattle.ob0_types_check.proofs.BindingsByOrdinal.{since-front}
 use Rattle.ob0_types_check.proofs.DeclaredShapes.{Longer}
 use Rattle.ob0_types_check.proofs.DeclaredKnown.{NamesKnown, holds_kept}
 
--- states that the bindings of the ordinals below m down to n, the latest first, agree with the
--- meanings of their ordinals
+-- Holds if the bindings have the ordinals from `n` up to `m`, without `m`, the latest first, and each agrees with the
+-- meaning of its ordinal.
 abbrev pub BindingsKnown : List Shape → List (Option (Meaning TypeId)) → ℕ → ℕ → TypeEnvironment Name → Type 0
 BindingsKnown shapes declared n m [] = m ≡ n
 BindingsKnown shapes declared n m (b ∷ bs) =
@@ -37,7 +37,7 @@ bindings_later before after old new n m i longer kept le (b ∷ bs) h =
       bindings_later before after old new n h.0 i longer kept (omega (arith, less)) bs h.4,
     )
 
--- the names put into a scope, and the bindings of these names
+-- an environment split into the bindings of the names just declared and the bindings of the scope before
 record Split (shapes : List Shape) (declared : List (Option (Meaning TypeId))) (l n m : ℕ) (scope : Scope Name) (env : TypeEnvironment Name) : Type 0 where
   first : TypeEnvironment Name
   rest : TypeEnvironment Name
@@ -81,7 +81,8 @@ split_since : (shapes : List Shape) (declared : List (Option (Meaning TypeId))) 
 split_since shapes declared l n m scope before env long s =
     subst (BindingsKnown shapes declared n m) (sym (ap (since before) s.both ∙ since-front before s.first s.rest (long ∙ sym (as_long shapes declared l scope s.rest s.holds)))) s.bound
 
--- the bindings that names add to an environment agree; m is the ordinal after the names
+-- The bindings that names add to an environment agree with the meanings of their ordinals. `m` is the ordinal after the
+-- names.
 pub names_bind : (shapes : List Shape) (declared : List (Option (Meaning TypeId))) (l n m : ℕ) (xs : List Name) (scope : Scope Name) (before env : TypeEnvironment Name) → after_names n xs ≡ m → length before ≡ length scope → NamesKnown shapes declared l (declare_names n xs scope) env
     → BindingsKnown shapes declared n m (since before env)
 names_bind shapes declared l n m xs scope before env e long h = subst (λ z. BindingsKnown shapes declared n z (since before env)) e (split_since shapes declared l n (after_names n xs) scope before env long (split shapes declared l n xs scope env h))
@@ -89,7 +90,7 @@ names_bind shapes declared l n m xs scope before env e long h = subst (λ z. Bin
 split_to : (shapes : List Shape) (declared : List (Option (Meaning TypeId))) (l n m : ℕ) (xs : List Name) (scope : Scope Name) (env : TypeEnvironment Name) → after_names n xs ≡ m → NamesKnown shapes declared l (declare_names n xs scope) env → Split shapes declared l n m scope env
 split_to shapes declared l n m xs scope env e h = subst (λ z. Split shapes declared l n z scope env) e (split shapes declared l n xs scope env h)
 
--- the same for the names of three sections
+-- The bindings that the names of three sections add to an environment agree with the meanings of their ordinals.
 pub sections_bind : (shapes : List Shape) (declared : List (Option (Meaning TypeId))) (l n i j m : ℕ) (xs ys zs : List Name) (scope : Scope Name) (before env : TypeEnvironment Name) → after_names n xs ≡ i → after_names i ys ≡ j → after_names j zs ≡ m → length before ≡ length scope
     → NamesKnown shapes declared l (declare_names j zs (declare_names i ys (declare_names n xs scope))) env → BindingsKnown shapes declared n m (since before env)
 sections_bind shapes declared l n i j m xs ys zs scope before env ei ej em long h =
@@ -100,7 +101,7 @@ sections_bind shapes declared l n i j m xs ys zs scope before env ei ej em long 
     let a = split_to shapes declared l n i xs scope b.rest ei b.holds in
     split_since shapes declared l n m scope before env long (split_then shapes declared l n j m scope second env c (split_then shapes declared l n i j scope first c.rest b a))
 
--- parameters are put before the rest of the environment
+-- Binding parameters puts their bindings before the rest of the environment.
 bind_typed-before : (ps : List (TypedParameter Name)) (first env : TypeEnvironment Name) → bind_typed ps (first ++ env) ≡ bind_typed ps first ++ env
 bind_typed-before [] first env = refl
 bind_typed-before (p ∷ ps) first env = bind_typed-before ps ((p.name, meant.a_variable p.formal.shape) ∷ first) env

@@ -1,4 +1,4 @@
--- Constants, types, variables and parameters without any reported fault are declared.
+-- Constants, types, variables and parameters are declared if no fault is reported for them.
 use Rattle.std.proofs.Common.{◌≡◌, ℕ, suc, ◌+◌, ◌≤◌, true, List, [], ◌∷◌, ◌++◌, length, map, Option, Some, option_and_then, refl, sym, ap, ◌∙◌, subst, subst₂, le_refl, le_of_lt, arith}
 use Rattle.std.proofs.lemmas.List.{map-append}
 use Rattle.ob0_tree.specs.Places.{named, text_at, value_at}
@@ -24,7 +24,8 @@ use Rattle.ob0_types_check.proofs.DeclaredNames.{ConstantsPlaced, Numbering, Typ
 use Rattle.ob0_types_check.proofs.DeclaredKnown.{Later, IsKnownAt, agrees_where_seen, all_defined, defined, later_same, later_then, holds_defined, holds_later}
 use Rattle.ob0_types_check.proofs.DeclaredTypes.{none_both, type_denotes}
 
--- the declarations with ordinals from n up to m and constructors from k up to l give an environment
+-- Holds if declarations give an environment that agrees with the state after them. Their ordinals go from `n` up to
+-- `m`, and the ordinals of their words ARRAY and RECORD from `k` up to `l`.
 pub record Declared (w : Numbering) (n m k l : ℕ) (p q : SoFar) (before : List Shape) (scope : Scope Name) (given : Option (TypeEnvironment Name)) : Type 0 where
   pub env : TypeEnvironment Name
   pub given_is : given ≡ Some env
@@ -36,7 +37,7 @@ pub record Declared (w : Numbering) (n m k l : ℕ) (p q : SoFar) (before : List
 nothing_declared : (w : Numbering) (n k l : ℕ) → l ≡ k → (p : SoFar) (before : List Shape) (scope : Scope Name) (env : TypeEnvironment Name) → IsKnownAt w p before n scope env → Declared w n n k l p p before scope (Some env)
 nothing_declared w n k l last p before scope env st = record { env = env; given_is = refl; after = before; apart = apart_same k l before last; later = later_same n p before st.table; holds = st }
 
--- joins two steps of declarations
+-- If the first declarations give an environment and further declarations give one from it, both together do.
 pub declared_then : {A : Type 0} (w : Numbering) (n i m k j l : ℕ) (p q r : SoFar) (before mid : List Shape) (scope : Scope Name) (given : Option A) (a : A) (next : A → Option (TypeEnvironment Name)) → n ≤ i → given ≡ Some a → Apart k j before mid → Later n p q before mid → Declared w i m j l q r mid scope (next a)
     → Declared w n m k l p r before scope (option_and_then next given)
 declared_then w n i m k j l p q r before mid scope given a next le is own later d = record {

@@ -33,8 +33,8 @@ use Rattle.ob0_types_check.proofs.BlocksBound.{BindingsKnown, as_long, bindings_
 use Rattle.ob0_types_check.proofs.MadeOnce.{Apart, apart_same, apart_then, apart_to}
 use Rattle.ob0_types_check.proofs.BlocksParameters.{formals_of, parameters_kept, parameters_over, sections_declare}
 
--- a part that fits and the state after it; it has the constructors from k up to l and the bindings
--- with ordinals from n up to m
+-- Holds if a part fits and its bindings agree with the state after it. The ordinals of the bindings go from `n` up to
+-- `m`, and the ordinals of the part's words ARRAY and RECORD from `k` up to `l`.
 pub record FitsLater (n m k l : ℕ) (p q : SoFar) (before : List Shape) (fits : Bool) (bindings : TypeEnvironment Name) : Type 0 where
   pub right : fits ≡ true
   pub after : List Shape
@@ -42,7 +42,7 @@ pub record FitsLater (n m k l : ℕ) (p q : SoFar) (before : List Shape) (fits :
   pub later : Later n p q before after
   pub bound : BindingsKnown after q.declared n m bindings
 
--- a procedure that fits, and the state after it
+-- holds if a procedure fits and the state after it agrees with the scope and the environment
 pub record ProcedureFits (w : Numbering) (n : ℕ) (p q : SoFar) (before : List Shape) (scope : Scope Name) (env : TypeEnvironment Name) (k : ℕ) (d : Tree ℕ (item procedure)) : Type 0 where
   pub parameters : List (TypedParameter Name)
   pub typed : typed_parameters as_names env k (procedure_formals (named w.source d)) ≡ Some parameters
@@ -53,7 +53,7 @@ pub record ProcedureFits (w : Numbering) (n : ℕ) (p q : SoFar) (before : List 
   pub holds : IsKnownAt w q after (after_procedure (suc n) d) (following_procedure w scope n d) (heading (procedure_name (named w.source d)) parameters env)
   pub bound : BindingsKnown after q.declared n (after_procedure (suc n) d) (procedure_bindings as_names env k (named w.source d))
 
--- the state after a procedure's heading, in which its name and parameters are known
+-- returns the state after a procedure's heading, in which its name and parameters are known
 abbrev pub heading_known : SoFar → ℕ → Tree ℕ (maybe formals) → SoFar
 heading_known p x fs = after_heading x (reported_sections (record { formals = []; following = p }) (formal_sections fs)).known
 
@@ -66,7 +66,7 @@ pub record HeadingKnown (w : Numbering) (n : ℕ) (p : SoFar) (before : List Sha
   pub holds : IsKnownAt w (heading_known p x fs) after (suc n) ((text_at w.source x, n) ∷ scope) (heading (text_at w.source x) parameters env)
   pub inside : IsKnownAt w (heading_known p x fs) after (after_names (suc n) (formal_names (formal_sections fs))) (scope_following w (suc n) (formal_names (formal_sections fs)) ((text_at w.source x, n) ∷ scope)) (bind_typed parameters (heading (text_at w.source x) parameters env))
 
--- the ordinal after a block's constructors
+-- The ordinals of a block's words ARRAY and RECORD can be added up section by section.
 block_end : (k t v p : ℕ) → k + t + v + p ≡ k + (t + (v + p))
 block_end k t v p = omega arith
 
@@ -86,7 +86,7 @@ module _ (w : Numbering) (fit : PartsFit) where
       ap (λ z. sequence_fits (meanings as_names env) (mapped (text_at w.source) (value_at z) s)) (sym st.source)
       ∙ fit.statements p before (text_at w.source) (meanings as_names env) s (agrees_where_seen w p false before n scope env st fit s seen) h
 
-  -- the constants, types and variables of a block
+  -- The constants, types and variables of a block are declared if no fault is reported for them.
   pub declarations_reported : (cs : Tree ℕ (maybe constants)) (ts : Tree ℕ (maybe type_names)) (vs : Tree ℕ (maybe variables)) (ps : Tree ℕ (items procedure)) (statements : Tree ℕ (maybe body)) (k n : ℕ) (p : SoFar) (before : List Shape) (scope : Scope Name) (env : TypeEnvironment Name) → length before ≡ k → IsKnownAt w p before n scope env
       → ConstantsPlaced w scope n (section_constants cs)
       → TypesPlaced w (following_constants w scope n (has_body (declares cs ts vs ps) statements)) (first_type n (has_body (declares cs ts vs ps) statements)) (section_types ts)
@@ -117,7 +117,7 @@ module _ (w : Numbering) (fit : PartsFit) where
       declared_then w n (first_variable n b) (first_procedure n b) k (after_types k nb) (after_variables k nb) p p₂ p₃ before first.after (following_variables w scope n b) (declare_first as_names env k nb) first.env (declare_typed as_names (after_types k nb) (section_variables (named w.source vs))) le₂ first.given_is first.apart first.later
       (subst (λ z. Declared w (first_variable n b) (first_procedure n b) (after_types k nb) (after_types k nb + variables_constructors z) p₂ p₃ first.after (following_variables w scope n b) (declare_typed as_names (after_types k nb) z first.env)) (sym (variables-mapped text value vs)) dv)
 
-  -- a block after its declarations
+  -- A block fits if its declarations give an environment in which its procedures and statements fit.
   block_then : (p v q : SoFar) (before : List Shape) (n m i k j l : ℕ) (scope : Scope Name) (env : TypeEnvironment Name) (given : Option (TypeEnvironment Name)) (statements : Tree ℕ (maybe body)) (test : TypeEnvironment Name → Bool) (bindings : TypeEnvironment Name → TypeEnvironment Name) → n ≤ m → (d : Declared w n m k j p v before scope given)
       → BindingsKnown d.after v.declared n m (since env d.env) → FitsLater m i j l v q d.after (test d.env) (bindings d.env)
       → FitsLater n i k l p (reported_body q statements).known before (some_and given test) (for_some given (λ inner. bindings inner ++ since env inner))
@@ -131,7 +131,8 @@ module _ (w : Numbering) (fit : PartsFit) where
             (bindings_both f.after q.declared n m i (bindings d.env) (since env d.env) f.bound (bindings_later d.after f.after v.declared q.declared n m m f.later.longer f.later.kept (le_refl m) (since env d.env) own));
       })
 
-  -- a procedure's heading, and the state after it
+  -- The parameters in a procedure's heading have types, and agree with the state after the heading, if no fault is
+  -- reported for them.
   pub heading_reported : (x : ℕ) (fs : Tree ℕ (maybe formals)) (k n : ℕ) (p : SoFar) (before : List Shape) (scope : Scope Name) (env : TypeEnvironment Name) → length before ≡ k → IsKnownAt w p before n scope env → IsPlaced w n x → SectionsPlaced w scope (suc n) (formal_sections fs)
       → (reported_sections (record { formals = []; following = p }) (formal_sections fs)).faults ≡ [] → HeadingKnown w n p before scope env k x fs
   heading_reported x fs k n p before scope env at st placed sections unreported =
@@ -165,7 +166,7 @@ module _ (w : Numbering) (fit : PartsFit) where
         };
       }
 
-  -- the bindings of a procedure's name and parameters
+  -- The bindings of a procedure's name and parameters agree with the meanings of their ordinals.
   heading_bound : (x : ℕ) (fs : Tree ℕ (maybe formals)) (n : ℕ) (scope : Scope Name) (env : TypeEnvironment Name) (p : SoFar) (before : List Shape) {k : ℕ} → NamesKnown before p.declared n scope env → (e : HeadingKnown w n p before scope env k x fs)
       → BindingsKnown e.after (heading_known p x fs).declared n (after_names (suc n) (formal_names (formal_sections fs))) (bind_typed e.parameters (heading (text_at w.source x) e.parameters []))
   heading_bound x fs n scope env p before names e =
@@ -175,7 +176,7 @@ module _ (w : Numbering) (fit : PartsFit) where
       subst (BindingsKnown e.after (heading_known p x fs).declared n m) (heading_since e.parameters (text x, meant.a_procedure (formals_of e.parameters)) env)
       (names_bind e.after (heading_known p x fs).declared m n m (text x ∷ map text xs) scope env (bind_typed e.parameters (heading (text x) e.parameters env)) (after_names-map text (suc n) xs) (as_long before p.declared n scope env names) e.inside.names)
 
-  -- the bindings of a procedure and of the procedures after it
+  -- The bindings of a procedure and the later ones are the later procedures' bindings followed by its own.
   procedures_bound : (d : Tree ℕ (item procedure)) (rest : Tree ℕ (items procedure)) (k : ℕ) (env : TypeEnvironment Name) (parameters : List (TypedParameter Name)) → typed_parameters as_names env k (procedure_formals (named w.source d)) ≡ Some parameters
       → procedure_fits as_names (bind_typed parameters (heading (procedure_name (named w.source d)) parameters env)) k (named w.source d) ≡ true
       → procedures_bindings as_names env k (named w.source (more d rest)) ≡ procedures_bindings as_names (heading (procedure_name (named w.source d)) parameters env) (k + procedure_constructors (named w.source d)) (named w.source rest) ++ procedure_bindings as_names env k (named w.source d)
@@ -268,7 +269,7 @@ room_first xs =
     let count : length later ≡ length xs = length-map {B = Option (Meaning TypeId)} xs (λ token. None) in
     omega (arith, length-append predeclared_meanings later, count)
 
--- the state at the beginning of a module
+-- The state at the beginning of a module agrees with the predeclared names.
 pub first_holds : (r : Resolution) → IsKnownAt (numbering_of r) (at_first r) [] 7 (predeclared_scope as_names) (outermost as_names)
 first_holds r = record {
   source = refl;

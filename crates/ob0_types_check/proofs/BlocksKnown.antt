@@ -1,4 +1,4 @@
--- After a module for which nothing is reported, each declaration is known.
+-- After a module for which no fault is reported, the state has the meaning of each declaration.
 use Rattle.std.proofs.Common.{◌≡◌, ℕ, ◌<◌, ◌≤◌, ◌==◌, Bool, true, false, cond, nat_lt, List, [], ◌∷◌, ◌++◌, length, map, Option, Some, None, slice_index_or, le_refl, refl, sym, ap, ◌∙◌, subst, arith, eq-eqb, eqb-true, true≢false}
 use Rattle.std.proofs.lemmas.Bool.{ltb-false, ltb-true, ne_eqb}
 use Rattle.std.proofs.lemmas.List.{get_or_past}
@@ -31,7 +31,7 @@ use Rattle.ob0_types_check.proofs.DeclaredNames.{after_block-mapped}
 use Rattle.ob0_types_check.proofs.DeclaredTypes.{none_both}
 use Rattle.ob0_types_check.proofs.PartsFitting.{parts_fit}
 
--- states that the meaning of an ordinal agrees with the object that it is bound to
+-- holds if the meaning of an ordinal agrees with the object that the ordinal is bound to
 abbrev IsKnownAs : List Shape → List (Option (Meaning TypeId)) → ℕ → Option (meant.Object Shape Signature) → Type 0
 IsKnownAs shapes known k o = MeansAlike (shape_in shapes) (slice_index_or known k None) o × (7 ≤ k → is_standard o ≡ false)
 
@@ -65,7 +65,7 @@ either {P} k m f g = by (nat_lt k m) refl
     by true e = f (ltb-true k m e)
     by false e = g (ltb-false k m e)
 
--- the ordinals below the last one, and the ordinals after it
+-- The bindings of ordinals below `m` agree with their meanings, and ordinals from `m` upwards have neither.
 module _ (shapes : List Shape) (known : List (Option (Meaning TypeId))) (m : ℕ) (names : TypeEnvironment Name) (labels : TypeEnvironment Label) (all : Ordered 0 m names labels) (bound : BindingsKnown shapes known 0 m names) (room : length known ≡ m) where
   below : (k : ℕ) → k < m → IsKnownAs shapes known k (object_bound labels k)
   below k less = subst (λ z. IsKnownAs shapes known k (object_bound z k)) (sym all.by_label) (known_at shapes known all.noted m all.in_order (subst (BindingsKnown shapes known 0 m) all.by_name bound) k less)
@@ -85,7 +85,7 @@ above_first : (n m : ℕ) (noted : TypeNoted Name) → InOrder n m noted → n �
 above_first n m [] order = omega (arith, order)
 above_first n m (b ∷ noted) order = omega (arith, order.0, above_first n b.ordinal noted order.1)
 
--- an ordinal below the ordinals of a block is bound as before the block
+-- An ordinal below the ordinals of a block is bound to the same object as before the block.
 bound_before : (n m : ℕ) (noted : TypeNoted Name) → InOrder n m noted → (env : TypeEnvironment Label) (k : ℕ) → k < n → object_bound (typed_by_ordinal noted ++ env) k ≡ object_bound env k
 bound_before n m [] order env k less = refl
 bound_before n m (b ∷ noted) order env k less =

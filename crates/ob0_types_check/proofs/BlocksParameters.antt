@@ -1,6 +1,6 @@
--- The formal parameters have the types of a signature if nothing is reported for them. Parameters
--- are reported before their procedure's own name is set. They are kept in a separate list
--- (`ParametersKnown`), which is put above the procedure's name afterwards (`parameters_over`).
+-- The formal parameters have the types of a signature if no fault is reported for them. Parameters are reported before
+-- the name of their procedure is declared. So they are kept in a separate list (`ParametersKnown`), which is put before
+-- the procedure's name in the environment afterwards (`parameters_over`).
 use Rattle.std.proofs.Common.{◌≡◌, ℕ, suc, ◌+◌, ◌<◌, ◌≤◌, Bool, true, false, List, [], ◌∷◌, ◌++◌, length, map, Option, Some, None, option_and_then, slice_index_or, refl, sym, ap, ◌∙◌, subst, subst₂, le_refl, le_of_lt, le_trans, append_assoc, append-nil, arith}
 use Rattle.std.proofs.lemmas.List.{map-append}
 use Rattle.ob0_tree.specs.Places.{named, text_at, value_at}
@@ -30,7 +30,7 @@ use Rattle.ob0_types_check.proofs.DeclaredShapes.{Longer}
 use Rattle.ob0_types_check.proofs.DeclaredKnown.{Later, NamesKnown, IsKnownAt, all_defined, defined, formals_kept, later_same, later_then, names_later, holds_defined, holds_kept, holds_later}
 use Rattle.ob0_types_check.proofs.DeclaredTypes.{none_both, type_denotes}
 
--- states that the parameters from an ordinal upwards are known as variables
+-- holds if the parameters with ordinals from `k` upwards are known as variables of their types
 abbrev pub ParametersKnown : List Shape → List (Option (Meaning TypeId)) → ℕ → List Name → List (TypedParameter Name) → Type 0
 ParametersKnown shapes declared k [] [] = Unit {0}
 ParametersKnown shapes declared k [] (p ∷ ps) = ⊥
@@ -49,7 +49,7 @@ parameters_kept before after old new k m longer kept (x ∷ xs) (p ∷ ps) le h 
   parameters_kept before after old new (suc k) m longer (λ j from to. kept j (le_of_lt from) to) xs ps le h.2,
 )
 
--- puts parameters above an environment
+-- Parameters that are known can be bound in an environment that agrees with the scope.
 pub parameters_over : (shapes : List Shape) (declared : List (Option (Meaning TypeId))) (k : ℕ) (scope : Scope Name) (env : TypeEnvironment Name) (xs : List Name) (ps : List (TypedParameter Name)) → NamesKnown shapes declared k scope env → ParametersKnown shapes declared k xs ps
     → NamesKnown shapes declared (after_names k xs) (declare_names k xs scope) (bind_typed ps env)
 parameters_over shapes declared k scope env [] [] below h = below
@@ -71,7 +71,7 @@ formals_both shape [] gs (a ∷ s) t h next = absurd h
 formals_both shape (f ∷ fs) gs [] t h next = absurd h
 formals_both shape (f ∷ fs) gs (a ∷ s) t h next = (h.0, h.1, formals_both shape fs gs s t h.2 next)
 
--- parameters of one type
+-- returns a parameter of this mode and type with this name
 abbrev pub typed_as : Mode → Shape → Name → TypedParameter Name
 typed_as mode s x = record { name = x; formal = record { mode = mode; shape = s } }
 
@@ -97,7 +97,8 @@ own_known w p shapes n scope env mode t s (x ∷ xs) is st placed =
       own_known w q shapes (suc n) ((text_at w.source x, n) ∷ scope) ((text_at w.source x, o) ∷ env) mode t s xs is next placed.1,
     )
 
--- the parameters from the ordinal n upwards, after the earlier ones of a heading
+-- holds if the sections of a heading give parameters, with ordinals from `n` upwards, which agree with the state after
+-- them
 pub record Parameters (n k l : ℕ) (h g : KnownHeading) (before : List Shape) (xs : List Name) (given : Option (List (TypedParameter Name))) : Type 0 where
   pub parameters : List (TypedParameter Name)
   pub given_is : given ≡ Some parameters
@@ -107,7 +108,7 @@ pub record Parameters (n k l : ℕ) (h g : KnownHeading) (before : List Shape) (
   pub own : ParametersKnown after g.following.declared n xs parameters
   pub formals : (signature : Signature) → FormalsAgree (shape_in before) h.formals signature → FormalsAgree (shape_in after) g.formals (signature ++ formals_of parameters)
 
--- the parameters of one type, and the state after them
+-- holds if a section of parameters has a type and its parameters agree with the state after it
 pub record OneType (w : Numbering) (n m k l : ℕ) (h g : KnownHeading) (before : List Shape) (scope : Scope Name) (env : TypeEnvironment Name) (mode : Mode) (xs : List Name) (given : Option Shape) : Type 0 where
   pub shape : Shape
   pub given_is : given ≡ Some shape
@@ -138,7 +139,7 @@ module _ (w : Numbering) (fit : PartsFit) where
             (formals_kept before s.after s.later.longer h.formals signature agree) (formals_same (shape_in s.after) (text_at w.source) by u.of s.shape s.known xs);
       }
 
-  -- parameters of one type, and then the others
+  -- If a section's parameters and the further sections' parameters have types, all of them together do.
   parameters_then : (mode : Mode) (xs : List ℕ) (ns ys : List Name) (n k j m : ℕ) (h g l : KnownHeading) (before : List Shape) (scope : Scope Name) (env : TypeEnvironment Name) (given : Option Shape) (next : TypeEnvironment Name → Option (List (TypedParameter Name))) → ns ≡ map (text_at w.source) xs
       → (one : OneType w n (after_names n xs) k j h g before (scope_following w n xs scope) env mode (map (text_at w.source) xs) given) → Parameters (after_names n xs) j m g l one.after ys (next (bind_names (map (text_at w.source) xs) (meant.a_variable one.shape) env))
       → Parameters n k m h l before (map (text_at w.source) xs ++ ys) (option_and_then (λ s. option_and_then (λ rest. Some (map (typed_as mode s) ns ++ rest)) (next (bind_names ns (meant.a_variable s) env))) given)

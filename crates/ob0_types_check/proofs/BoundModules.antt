@@ -1,5 +1,5 @@
--- Each name of a well-typed module is bound. The walk is over the numbered tree. There, a label
--- with only a spelling is bound in no environment (`only-written`). So the walk needs no invariant.
+-- Each name of a well-typed module is bound. The proof is about the numbered tree. There, a label that has only a
+-- spelling is bound in no environment (`only-written`). So the proof needs no invariant.
 use Rattle.std.proofs.Common.{◌≡◌, ℕ, ◌+◌, Bool, true, false, ◌&&◌, List, [], ◌∷◌, ◌++◌, map, Option, Some, None, option_and_then, if◌then◌else◌, refl, sym, ap, ◌∙◌}
 use Rattle.ob0_scan.specs.declared.fault.Code.TheVariants as code
 use Rattle.ob0_scan.specs.Scanned.{Scanned}
@@ -65,7 +65,7 @@ module _ {N : Type 0} (P : N → Type 0) (naming : Naming N) (bound : (env : Typ
       each-of-both P (occurrences f) (occurrences fs) (section-bound f (type-bound P (meanings naming env) (bound env) k (section_type f) s hs))
       (sections-bound fs (k + constructors (section_type f)) (inner s) rest hr)
 
-  -- optional sections
+  -- If each name of a section has a property, so does each name of the section as an optional part.
   constant-section : (cs : Tree N (maybe constants)) → Each P (occurrences (section_constants cs)) → Each P (occurrences cs)
   constant-section none h = tt
   constant-section (one (declares_constants cs)) h = h
@@ -115,7 +115,7 @@ module _ {N : Type 0} (P : N → Type 0) (naming : Naming N) (bound : (env : Typ
     procedure-bound (declares_procedure x fs b closing) k env own h =
         each-of-both P (occurrences fs) (occurrences b) (formal-section fs own) (block-bound b (k + formals_constructors (formal_sections fs)) env h)
 
--- a label with only a spelling is unbound in a numbered tree
+-- A label that has only a spelling is bound in no environment of labels.
 only-written : (env : TypeEnvironment Label) (x : List ℕ) → newest (from_binding as_labels env (as_written x)) ≡ None
 only-written [] x = refl
 only-written ((declared k, o) ∷ env) x = only-written env x

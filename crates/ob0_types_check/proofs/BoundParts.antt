@@ -1,5 +1,5 @@
--- Each name in an expression that has a type, in a written type that denotes a type and in
--- well-typed statements has a meaning.
+-- Each name has a meaning if it occurs in an expression that has a type, in a written type that denotes a type, or in
+-- well-typed statements.
 use Rattle.std.proofs.Common.{◌≡◌, ℕ, suc, ◌+◌, true, true≢false, List, [], ◌∷◌, ◌++◌, map, Option, Some, None, option_map, option_and_then, refl, sym, ◌∙◌}
 use Rattle.ob0_language_names.specs.Parts.{names_listed}
 use Rattle.ob0_tree.specs.Tree.{Tree, addend, adds, arguments, array_type, assigns, branches, calls, compares, designator, else_branch, else_part, elsif_branch, elsif_part, empty, end, expression, factor, field, fields, further_argument, further_fields, further_statement, index, integer, items, maybe, more, multiplier, multiplies, named_type, negation, no_arguments, no_fields, none, occurrences, one, parenthesised, product, record_type, relates, repeat_loop, runs, selector, sequence, simple, some_arguments, some_fields, statement, sum, term, then_argument, then_fields, then_statement, while_loop, written_type}
@@ -17,7 +17,7 @@ pub each-of-both : {A : Type 0} (P : A → Type 0) (xs ys : List A) → Each P x
 each-of-both P [] ys p q = q
 each-of-both P (x ∷ xs) ys p q = (p.0, each-of-both P xs ys p.1 q)
 
--- a name for which a look-up gives a result has a meaning
+-- A name has a meaning if a look-up gives a result for the name, and would give nothing for an unbound name.
 name-of : {V Q B : Type 0} (f : Option (Object V Q) → Option B) → f None ≡ None → (o : Option (Object V Q)) (b : B) → f o ≡ Some b → (x : Object V Q) × (o ≡ Some x)
 name-of f nothing None b h = absurd (some-none b (sym h ∙ nothing))
 name-of f nothing (Some x) b h = (x, refl)
@@ -131,7 +131,7 @@ module _ {N : Type 0} (P : N → Type 0) (meaning : Typed N) (bound : (x : N) (o
       by-object (Some (a_standard p)) e h = absurd (some-none s (sym h))
       by-object (Some (a_variable v)) e h = (bound x (a_variable v) e, selectors-bound P meaning bound v path s h)
 
-  -- the argument of a VAR parameter is only a designator
+  -- Each name in the argument of a VAR parameter has a meaning, because the argument is only a designator.
   place-bound : (e : Tree N expression) (s : Shape) → variable_type meaning (lone_designator e) ≡ Some s → Each P (occurrences e)
   unfolding variable_type
   place-bound (compares (sum (Some g) t rest) c) s h = absurd (some-none s (sym h))

@@ -1,6 +1,6 @@
--- Reports made in steps, one after another, and by a loop over the items of a chain. `steps` joins
--- two steps; `reports_same` replaces a step by an equal one. `Chained` is the loop's invariant.
--- Loops over declarations are such chains, with the state so far in place of the operand.
+-- Reports that are made in steps, one after another, and reports that a loop makes over the items of a list. `steps`
+-- joins two steps, and `reports_same` replaces a step by an equal one. `Chained` is the loop's invariant. Loops over
+-- declarations have the same form, with the state so far in place of the operand.
 use Rattle.std.proofs.Common.{◌≡◌, ℕ, ◌+◌, ◌<◌, ◌≤◌, List, ◌∷◌, ◌++◌, length, get_or, drop, refl, sym, ap, ◌∙◌, append-nil, append_assoc}
 use Rattle.std.proofs.lemmas.List.{drop_all, drop_more}
 use Rattle.ob0_scan.specs.declared.fault.Fault.{Fault}
@@ -24,20 +24,19 @@ steps {f0 = f0} {x = x} {a = a} next s1 s2 = record {
 pub reports_known : {A : Type 0} (faults : List Fault) {x y : A} → x ≡ y → ReportsAfter faults faults x (right y)
 reports_known faults e = record { known = e; reported = sym (append-nil faults) }
 
--- replaces a report by an equal one
+-- A report can be replaced by an equal report.
 pub reports_same : {A : Type 0} {f0 f1 : List Fault} {x : A} {a b : Reported A} → ReportsAfter f0 f1 x a → a ≡ b → ReportsAfter f0 f1 x b
 reports_same {f0 = f0} s e = record { known = s.known ∙ ap (λ t. t.known) e; reported = s.reported ∙ ap (λ t. f0 ++ t.faults) e }
 
 pub then_assoc : {A B C : Type 0} (a : Reported A) (f : A → Reported B) (g : B → Reported C) → (a >>= (λ x. f x >>= g)) ≡ ((a >>= f) >>= g)
 then_assoc a f g = reported_equal refl (sym (append_assoc a.faults (f a.known).faults (g (f a.known).known).faults))
 
--- states that a chain is reported item by item
+-- holds if a list of items is reported item by item
 pub record IsChain {O : Type 0} {i : Item} (chain : O → Tree ℕ (items i) → Reported O) (step : O → Tree ℕ (item i) → Reported O) : Type 0 where
   pub ended : (x : O) → chain x end ≡ right x
   pub stepped : (x : O) (t : Tree ℕ (item i)) (ts : Tree ℕ (items i)) → chain x (more t ts) ≡ (step x t >>= (λ y. chain y ts))
 
--- states that the faults so far, followed by the faults of the remaining items, are the faults of
--- all items
+-- holds if the faults so far, followed by the faults of the remaining items, are the faults of all items
 pub record Chained {O A : Type 0} {i : Item} (chain : O → Tree ℕ (items i) → Reported O) (f : A → Tree ℕ (item i)) (before : List Fault) (start : O) (xs : List A) (done : ℕ) (now : List Fault) (out : O) : Type 0 where
   pub so_far : preceded_by now (chain out (items_of f (drop done xs))) ≡ preceded_by before (chain start (items_of f xs))
 

@@ -1,6 +1,5 @@
--- A module declares the same objects as before its tokens changed in some bodies, if nothing is
--- reported for either version. Both versions have the same final state, and the state determines
--- the object of a declaration.
+-- If some bodies of a module changed and no fault is reported before or after, the module declares the same objects.
+-- Both versions have the same final state, and that state determines the object of each declaration.
 use Rattle.std.proofs.Common.{◌≡◌, ℕ, Bool, true, false, nat_lt, List, [], ◌∷◌, ◌++◌, slice_index_or, Option, Some, None, refl, sym, ap, ◌∙◌, subst, ltb-true, ltb-false}
 use Rattle.ob0_language_names.specs.Names.{Name}
 use Rattle.ob0_language_names.specs.Parts.{module_block}
@@ -91,7 +90,7 @@ module _ (p q : SoFar) (m n : Tree Name module_text) (h : KnowsDeclarations p m)
           let high = ltb-false k 7 e in
           agrees_once g.shapes (slice_index_or q.declared k None) (declared_object m k) (declared_object n k) (known_in_both k) (g.declared k) (h.standards k high) (g.standards k high)
 
--- the state at the end of a module
+-- returns the state at the end of a module
 abbrev last_known : Resolution → SoFar
 last_known r = (reported_block (at_first r) (module_block (tree_of r.module_read))).known
 

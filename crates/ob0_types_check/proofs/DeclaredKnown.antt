@@ -1,12 +1,11 @@
--- The state at a place of a module agrees with the scope and the environment there. Scope and
--- environment grow by the same steps, so they are kept side by side (`NamesKnown`). If the scope
--- finds a name, the environment finds it at the same position. The meaning of the name's ordinal
--- agrees with its object. So nothing has to be looked up by ordinal, and ordinals needn't be shown
--- to differ. Standard procedures are treated like others, with their parameters. A separate part
--- states that no object with an ordinal of at least 7 is one of them. All walks keep `Later n p q
--- before after`: declarations below the ordinal n are unchanged, and types keep their shapes. Facts
--- about a place also hold later (`holds_later`), so the names around a procedure remain known in
--- its whole block.
+-- The state at a place of a module agrees with the scope and the environment there. Scope and environment grow by the
+-- same steps, so `NamesKnown` compares them position by position. If the scope finds a name, the environment finds it
+-- at the same position. The meaning of the name's ordinal agrees with its object. So nothing has to be looked up by
+-- ordinal, and ordinals needn't be shown to differ. Standard procedures are treated like others, with their parameters.
+-- A separate clause says that no object with an ordinal of at least 7 is a standard procedure. All proofs about
+-- declarations keep `Later n p q before after`: declarations below the ordinal n are unchanged, and types keep their
+-- shapes. Facts about a place also hold later (`holds_later`), so the names around a procedure remain known in its
+-- whole block.
 use Rattle.std.proofs.Common.{map, ◌≡◌, ◌≢◌, ℕ, suc, ◌<◌, ◌≤◌, Bool, true, false, List, [], ◌∷◌, length, Option, Some, None, option_and_then, slice_index_or, slice_set, refl, sym, ap, ◌∙◌, subst, arith, le_trans, le_of_lt, le_refl, get_or-set_other, get_or-set_same}
 use Rattle.std.proofs.lemmas.List.{length-set}
 use Rattle.ob0_tree.proofs.Occurring.{looked_up-occurrences, looked_up_only}
@@ -45,9 +44,8 @@ pub holds_kept : (before after : List Shape) → Longer before after → (m : Op
 holds_kept before after longer None o h = absurd h
 holds_kept before after longer (Some m) o h = meaning_kept before after longer m o h
 
--- states that each name of a scope is at the same position in the environment, with an object that
--- agrees with the meaning of its ordinal; all ordinals are below n, and those of standard
--- procedures are below 7
+-- Holds if each name of a scope is at the same position in the environment. Its object there agrees with the meaning of
+-- its ordinal. All ordinals are below `n`, and ordinals of standard procedures are below 7.
 abbrev pub NamesKnown : List Shape → List (Option (Meaning TypeId)) → ℕ → Scope Name → TypeEnvironment Name → Type 0
 NamesKnown shapes declared n [] [] = Unit {0}
 NamesKnown shapes declared n [] (c ∷ env) = ⊥
@@ -67,7 +65,7 @@ names_later before after old new n m longer kept le (b ∷ scope) (c ∷ env) h 
   names_later before after old new n m longer kept le scope env h.4,
 )
 
--- a name that the scope has
+-- holds if the meaning of the ordinal agrees with the first object of the environment
 abbrev FoundAlike : List Shape → List (Option (Meaning TypeId)) → TypeEnvironment Name → ℕ → Type 0
 FoundAlike shapes declared env k = MeansAlike (shape_in shapes) (slice_index_or declared k None) (newest env)
 
@@ -85,7 +83,7 @@ name_found shapes declared n (b ∷ scope) (c ∷ env) h x k e =
     subst (λ v. FoundAlike shapes declared (elim v [ true ↦ c ∷ env | false ↦ from_binding as_names env x ]) k) (ap (same_name x) (sym h.1))
     (first_found shapes declared b.1 k c env (from_binding as_names env x) (same_name x b.0) (ordinal_of as_names scope x) h.2 (name_found shapes declared n scope env h.4 x k) e)
 
--- agreement of the state at a place with the scope and the environment there; n is the next ordinal
+-- holds if the state at a place agrees with the scope and the environment there; `n` is the next ordinal
 pub record IsKnownAt (w : Numbering) (p : SoFar) (shapes : List Shape) (n : ℕ) (scope : Scope Name) (env : TypeEnvironment Name) : Type 0 where
   pub source : p.source ≡ w.source
   pub ordinals : p.ordinals ≡ w.ordinals
@@ -93,7 +91,7 @@ pub record IsKnownAt (w : Numbering) (p : SoFar) (shapes : List Shape) (n : ℕ)
   pub table : TableAgrees p.made shapes
   pub names : NamesKnown shapes p.declared n scope env
 
--- a later state: declarations below the ordinal n are unchanged
+-- holds if `q` is a later state: declarations below the ordinal `n` are unchanged, and types keep their shapes
 pub record Later (n : ℕ) (p q : SoFar) (before after : List Shape) : Type 0 where
   pub source : q.source ≡ p.source
   pub ordinals : q.ordinals ≡ p.ordinals
@@ -127,7 +125,7 @@ holds_later w n m l p q before after scope env le up h f = record {
   names = names_later before after p.declared q.declared n l f.longer (λ k less. f.kept k (le_trans less le)) up scope env h.names;
 }
 
--- adds a declaration at its ordinal
+-- Defining a name sets the declaration with its ordinal.
 with_one : (p : SoFar) (m : Meaning TypeId) (token k : ℕ) → ordinal_in p.ordinals token ≡ Some k → define p m token ≡ record { source = p.source; ordinals = p.ordinals; declared = slice_set p.declared k (Some m); made = p.made }
 with_one p m token k e = ap (with_declared p m) e
 
@@ -173,7 +171,7 @@ holds_defined w p q shapes n scope env m x o h d own agrees =
       names = (less, refl, subst (λ z. MeansAlike (shape_in shapes) z (Some o)) (sym d.here) agrees, λ le. own, rest.names);
     }
 
--- an expression or statements in which all names are visible
+-- In an expression or statements whose names are all visible in the scope, the facts agree with all names.
 module _ (w : Numbering) (p : SoFar) (only_constants : Bool) (shapes : List Shape) (n : ℕ) (scope : Scope Name) (env : TypeEnvironment Name) (h : IsKnownAt w p shapes n scope env) where
   pub seen_holds : (x : ℕ) → IsSeen w scope x → MeansAlike (shape_in shapes) ((facts_at p only_constants).object_for x) ((meanings as_names env).object_for (text_at w.source x))
   seen_holds x (k, at, there) =
@@ -194,7 +192,8 @@ module _ (w : Numbering) (p : SoFar) (only_constants : Bool) (shapes : List Shap
     tokens = tokens_agree (identifiers role.Declaring t) (subst (Each (IsSeen w scope)) (sym (looked_up-occurrences role.Declaring (λ x xs. refl) t)) seen);
   }
 
--- several names of one object
+-- holds if `q` is a later state than `p` and agrees with the scope and the environment, in which several names of one
+-- object are declared
 pub record AllDefined (w : Numbering) (p q : SoFar) (shapes : List Shape) (n m : ℕ) (scope : Scope Name) (env : TypeEnvironment Name) : Type 0 where
   pub later : Later n p q shapes shapes
   pub holds : IsKnownAt w q shapes m scope env

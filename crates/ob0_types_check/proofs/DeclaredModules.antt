@@ -1,4 +1,4 @@
--- If every name of a module is bound, all names are placed.
+-- If every name of a module is bound, all its names have the right ordinals (`BlockPlaced`).
 use Rattle.std.proofs.Common.{◌≡◌, ℕ, suc, ◌+◌, Option, Some, None, List, [], ◌∷◌, ◌++◌, map, length, refl, sym, ap, ◌∙◌, arith, length-append, if◌then◌else◌}
 use Rattle.std.specs.List.{filter}
 use Rattle.ob0_scan.specs.declared.fault.Code.TheVariants as code
@@ -17,7 +17,7 @@ use Rattle.ob0_language_names.proofs.Ordinals.{after_names-append}
 use Rattle.ob0_scope_table.proofs.Plain.{Plain, declares_nothing, declaring_only-append}
 use Rattle.ob0_types_check.proofs.DeclaredNames.{BlockPlaced, Each, IsBound, Numbering, block_placed}
 
--- states that from one ordinal to another there are as many numbers as declaring names
+-- holds if `j` is `k` plus the number of declaring names
 pub record Counts (k : ℕ) (xs : List (Role × ℕ)) (j : ℕ) : Type 0 where
   pub counts : j ≡ k + length (declaring_only xs)
 
@@ -101,7 +101,7 @@ mutual
       let j : ℕ = after_names (suc k) (formal_names (formal_sections fs)) in
       first (both (counts_formals (suc k) fs) (both (counts_block j b) (closing_last (after_block j b) closing)))
 
--- if no name is reported as undeclared, each one is bound
+-- If no name is reported as undeclared, each name is bound.
 one_bound : (n : Numbering) (x : ℕ) (xs : List ℕ) (later : List Fault) (o : Option ℕ) (f : Fault) → ordinal_in n.ordinals x ≡ o → (later ≡ [] → Each (IsBound n) xs)
     → (if is_unbound (as_label as_names o (text_at n.source x)) then f ∷ later else later) ≡ [] → Each (IsBound n) (x ∷ xs)
 one_bound n x xs later None f h others e = absurd (cc)
@@ -112,11 +112,11 @@ all_bound n [] e = tt
 all_bound n (x ∷ xs) e =
     one_bound n x xs (unbound_at n.source xs (map (label_at n.source n.ordinals) xs)) (ordinal_in n.ordinals x) (record { code = code.Undeclared; span = span_at n.source x }) refl (all_bound n xs) e
 
--- the names of a resolved module
+-- returns the numbering of a resolved module's names
 abbrev pub numbering_of : Resolution → Numbering
 numbering_of r = record { source = r.module_read.source; ordinals = r.ordinals; room = 7 + length r.declarations }
 
--- a module has as many ordinals from 7 upwards as declaring names
+-- The number of ordinals of a module is 7 plus the number of its declaring names.
 pub module_counted : (r : Resolution) → IsResolution r → after_block 7 (module_block (tree_of r.module_read)) ≡ 7 + length r.declarations
 module_counted r is =
     let b : Tree ℕ block = module_block (tree_of r.module_read) in

@@ -1,8 +1,7 @@
--- Each name of a module has the right ordinal: a looked-up name the one from the scope at its
--- place, a declaring name the one of its position. `BlockPlaced` states this by recursion on the
--- tree of tokens. It is derived from `IsBinding`, an equation between trees, by applying the same
--- projections to both sides and by counting the declaring tokens. So the proofs that use it don't
--- mention relabelled trees.
+-- Each name of a module has the right ordinal. For a looked-up name this is the ordinal that the scope at its place
+-- gives. For a declaring name it is the number of its declaration. `BlockPlaced` states this by recursion on the tree
+-- of tokens. It is derived from `IsBinding`, an equation between trees, by applying the same projections to both sides
+-- and by counting the declaring tokens. So the proofs that use `BlockPlaced` don't mention relabelled trees.
 use Rattle.std.proofs.Common.{◌≡◌, ℕ, suc, ◌<◌, ◌≤◌, Option, Some, None, List, [], ◌∷◌, ◌++◌, map, refl, sym, ap, ◌∙◌, subst, le_trans}
 use Rattle.std.proofs.lemmas.List.{map-append}
 use Rattle.ob0_scan.specs.Scanned.{Scanned}
@@ -18,7 +17,7 @@ use Rattle.ob0_language_names.proofs.Ordinals.{after_names-append, le-after_bloc
 use Rattle.ob0_language_names.proofs.Peeling.{heads}
 use Rattle.ob0_language_names.proofs.Relabelled.{constants-section, formals-section, names-relabel, section_names-relabel, section_type-relabel, types-section, variables-section}
 
--- states that each element of a list has a property
+-- holds if each element of a list has the property `P`
 abbrev pub Each : {A : Type 0} → (A → Type 0) → List A → Type 0
 Each P [] = Unit {0}
 Each P (x ∷ xs) = P x × Each P xs
@@ -39,7 +38,7 @@ map-twice : {A B C : Type 0} (f : B → C) (g : A → B) (xs : List A) → map f
 map-twice f g [] = refl
 map-twice f g (x ∷ xs) = λ i. f (g x) ∷ map-twice f g xs i
 
--- the parts of lists and declarations
+-- returns the first item of a list, or `d` if it is empty; the next ones return other parts of lists and declarations
 abbrev first_of : {N : Type 0} {i : Item} → Tree N (item i) → Tree N (items i) → Tree N (item i)
 first_of d end = d
 first_of d (more t ts) = t
@@ -69,7 +68,7 @@ variables_side (declares_variable ns t) = t
 abbrev section_in : {N : Type 0} → Tree N (item further_section) → Tree N section
 section_in (then_section f) = f
 
--- names get the same ordinals whatever they are
+-- The ordinal after names depends only on their number.
 pub after_names-map : {A B : Type 0} (f : A → B) (k : ℕ) (xs : List A) → after_names k (map f xs) ≡ after_names k xs
 after_names-map f k [] = refl
 after_names-map f k (x ∷ xs) = after_names-map f (suc k) xs
@@ -127,7 +126,7 @@ formal_names-mapped f g end = refl
 formal_names-mapped f g (more (then_section s) fs) =
     joined f (section_names s) (formal_names fs) (section_names (mapped f g s)) (formal_names (mapped f g fs)) (section_names-mapped f g s) (formal_names-mapped f g fs)
 
--- the names of optional sections
+-- The names in optional sections of a mapped tree are the mapped names.
 constants-names : {N M : Type 0} (f : N → M) (g : ℕ → ℕ) (cs : Tree N (maybe constants)) → constant_names (section_constants (mapped f g cs)) ≡ map f (constant_names (section_constants cs))
 constants-names f g cs = ap constant_names (constants-mapped f g cs) ∙ constant_names-mapped f g (section_constants cs)
 
@@ -162,13 +161,14 @@ mutual
   after_procedure-mapped f g j k e (declares_procedure x fs b closing) =
       after_block-mapped f g (after_names j (formal_names (formal_sections (mapped f g fs)))) (after_names k (formal_names (formal_sections fs))) (after-mapped f j k (formal_names (formal_sections fs)) (formal_names (formal_sections (mapped f g fs))) (formals-names f g fs) e) b
 
--- The names of a module by token: their spellings, their ordinals, and the number of ordinals.
+-- The names of a module by token: the text with their spellings, their ordinals, and the number of ordinals.
 pub record Numbering : Type 0 where
   pub source : Scanned
   pub ordinals : List (Option ℕ)
   pub room : ℕ
 
--- a declaring token at an ordinal, and declaring names from an ordinal upwards
+-- `IsPlaced` holds if a declaring token has this ordinal. `NamesPlaced` holds if declaring tokens have the ordinals
+-- from `k` upwards.
 abbrev pub IsPlaced : Numbering → ℕ → ℕ → Type 0
 IsPlaced n k x = (ordinal_in n.ordinals x ≡ Some k) × (k < n.room)
 
@@ -176,8 +176,8 @@ abbrev pub NamesPlaced : Numbering → ℕ → List ℕ → Type 0
 NamesPlaced n k [] = Unit {0}
 NamesPlaced n k (x ∷ xs) = IsPlaced n k x × NamesPlaced n (suc k) xs
 
--- states that a looked-up token is bound, or that the scope has it, or that the scope has all the
--- looked-up tokens of a part
+-- `IsBound` holds if a looked-up token is bound. `IsSeen` holds if the scope gives the token's ordinal. `AreSeen` holds
+-- if the scope gives the ordinals of all looked-up tokens of a part.
 abbrev pub IsBound : Numbering → ℕ → Type 0
 IsBound n x = (k : ℕ) × (ordinal_in n.ordinals x ≡ Some k)
 
@@ -187,11 +187,12 @@ IsSeen n scope x = (k : ℕ) × (ordinal_in n.ordinals x ≡ Some k) × (ordinal
 abbrev pub AreSeen : {s : Sort} → Numbering → Scope Name → Tree ℕ s → Type 0
 AreSeen n scope t = Each (IsSeen n scope) (occurrences t)
 
--- the scope after some names
+-- returns the scope after declaring names with ordinals from `k` upwards
 abbrev pub scope_following : Numbering → ℕ → List ℕ → Scope Name → Scope Name
 scope_following n k xs scope = declare_names k (map (text_at n.source) xs) scope
 
--- declarations from an ordinal upwards, in a scope
+-- holds if the declarations of a section have the ordinals from `k` upwards, and their looked-up names have the
+-- ordinals that the scope gives
 abbrev pub ConstantsPlaced : Numbering → Scope Name → ℕ → Tree ℕ (items constant) → Type 0
 ConstantsPlaced n scope k end = Unit {0}
 ConstantsPlaced n scope k (more (declares_constant x e) cs) = IsPlaced n k x × AreSeen n scope e × ConstantsPlaced n ((text_at n.source x, k) ∷ scope) (suc k) cs
@@ -210,7 +211,8 @@ SectionsPlaced n scope k end = Unit {0}
 SectionsPlaced n scope k (more (then_section f) fs) =
     NamesPlaced n k (section_names f) × AreSeen n scope (section_type f) × SectionsPlaced n (scope_following n k (section_names f) scope) (after_names k (section_names f)) fs
 
--- the scopes of a block and their first ordinals, by tokens
+-- returns the scope after the constants of a block, given its tree of tokens; the next ones return the scopes after its
+-- other sections
 abbrev pub following_constants : Numbering → Scope Name → ℕ → Tree ℕ block → Scope Name
 following_constants n scope k b = scope_following n k (constant_names (block_constants b)) scope
 
@@ -234,7 +236,8 @@ abbrev mutual
       × VariablesPlaced n (following_types n scope k (has_body (declares cs ts vs ps) statements)) (first_variable k (has_body (declares cs ts vs ps) statements)) (section_variables vs)
       × ProceduresPlaced n (following_variables n scope k (has_body (declares cs ts vs ps) statements)) (first_procedure k (has_body (declares cs ts vs ps) statements)) statements ps
 
-  -- procedures, and the statements after them
+  -- holds if procedures have the ordinals from `k` upwards, and all looked-up names, also in the later statements, have
+  -- the ordinals that the scope gives
   pub ProceduresPlaced : Numbering → Scope Name → ℕ → Tree ℕ (maybe body) → Tree ℕ (items procedure) → Type 0
   ProceduresPlaced n scope k statements end = AreSeen n scope statements
   ProceduresPlaced n scope k statements (more p rest) = ProcedurePlaced n scope k p × ProceduresPlaced n (following_procedure n scope k p) (after_procedure (suc k) p) statements rest
@@ -244,7 +247,7 @@ abbrev mutual
       IsPlaced n k x × SectionsPlaced n scope (suc k) (formal_sections fs) × BlockPlaced n (inside_procedure n scope k (declares_procedure x fs b closing)) (after_names (suc k) (formal_names (formal_sections fs))) b
 
 module _ (n : Numbering) where
-  -- the tree with names as they are spelled, and the tree with ordinals and names by token
+  -- returns the tree in which each token is replaced by its ordinal and its spelling
   abbrev bound_by : {s : Sort} → Tree ℕ s → Tree (Option ℕ × Name) s
   bound_by t = mapped (bound_at n.source n.ordinals) (value_at n.source) t
 

@@ -1,6 +1,6 @@
--- Tables of types and their shapes: adding an array or record leaves the earlier shapes unchanged,
--- and sizes agree with shapes. `Longer before after` states that types keep their shapes. It
--- doesn't state that one list is a prefix of the other, so lists needn't be reassociated.
+-- Tables of types and their shapes. Adding an array or record leaves the earlier shapes unchanged, and sizes agree with
+-- shapes. `Longer before after` states that types keep their shapes. It doesn't state that one list is a prefix of the
+-- other, so lists needn't be reassociated.
 use Rattle.std.proofs.Common.{◌≡◌, ℕ, zero, suc, ◌+◌, ◌*◌, max, true, ◌&&◌, List, [], ◌∷◌, ◌++◌, length, Option, Some, None, option_and_then, slice_get, nat_le, if◌then◌else◌, map, refl, sym, ap, ◌∙◌, subst, append_assoc, append-nil, arith}
 use Rattle.std.proofs.Math.Nat.{max_comm, mul_comm}
 use Rattle.ob0_tree.specs.Places.{text_at}
@@ -13,7 +13,7 @@ use Rattle.ob0_types_check.specs.SoFar.{MadeType, PartTypes, Size, FieldSoFar, i
 use Rattle.ob0_types_check.specs.WrittenTypeFaults.{Gathered, array_size, record_size, with_name, with_field_names}
 use Rattle.ob0_types_check.specs.Agreement.{EachMade, FieldsAgree, MadeAgrees, PartsAgree, TableAgrees, as_array, as_record, shape_in}
 
--- states that types keep their shapes
+-- holds if each type that has a shape in `before` has the same shape in `after`
 abbrev pub Longer : List Shape → List Shape → Type 0
 Longer before after = (t : TypeId) (s : Shape) → shape_in before t ≡ Some s → shape_in after t ≡ Some s
 
@@ -54,7 +54,7 @@ each_more known [] (x ∷ ss) m s h one = absurd h
 each_more known (x ∷ ms) [] m s h one = absurd h
 each_more known (x ∷ ms) (y ∷ ss) m s h one = (h.0, each_more (known ++ y ∷ []) ms ss m s h.1 (subst (λ z. MadeAgrees (shape_in z) m s) (sym (append_assoc known (y ∷ []) ss)) one))
 
--- adds an entry and its shape
+-- If a table agrees with its shapes, it still does when an entry and its shape are appended.
 pub table_more : (ms : List MadeType) (shapes : List Shape) (m : MadeType) (s : Shape) → TableAgrees ms shapes → MadeAgrees (shape_in shapes) m s → TableAgrees (ms ++ m ∷ []) (shapes ++ s ∷ [])
 table_more ms shapes m s h one = each_more [] ms shapes m s h one
 
@@ -64,7 +64,7 @@ each_long known [] (s ∷ ss) h = absurd h
 each_long known (m ∷ ms) [] h = absurd h
 each_long known (m ∷ ms) (s ∷ ss) h = ap suc (each_long (known ++ s ∷ []) ms ss h.1)
 
--- there are as many shapes as entries
+-- A table that agrees with its shapes has as many entries as there are shapes.
 pub table_long : (ms : List MadeType) (shapes : List Shape) → TableAgrees ms shapes → length ms ≡ length shapes
 table_long ms shapes h = each_long [] ms shapes h
 
@@ -80,12 +80,12 @@ last_array ms shapes k n u h = ap (option_and_then as_array) (last_shape shapes 
 pub last_record : (ms : List MadeType) (shapes : List Shape) (k : ℕ) (fs : FieldShapes) → TableAgrees ms shapes → shape_in (shapes ++ record_shape k fs ∷ []) (type.Record (length ms)) ≡ Some (record_shape k fs)
 last_record ms shapes k fs h = ap (option_and_then as_record) (last_shape shapes (length ms) (record_shape k fs) (table_long ms shapes h))
 
--- agreement of a size with a shape
+-- holds if a size is the size of a shape
 pub record SizeAgrees (z : Size) (s : Shape) : Type 0 where
   pub scalars_are : z.scalars ≡ scalars s
   pub depth_is : z.depth ≡ depth s
 
--- agreement of the entry of a type with its shape
+-- holds if the table has an entry that agrees with the shape in its size
 pub record Entered (m : Option MadeType) (s : Shape) : Type 0 where
   pub entry : MadeType
   pub there : m ≡ Some entry
@@ -129,7 +129,7 @@ is_limited z s h e = (λ i. if nat_le (sym h.scalars_are i) 65536 && nat_le (sym
 pub array_sized : (z : Size) (k n : ℕ) (s : Shape) → SizeAgrees z s → SizeAgrees (array_size n z) (array_shape k n s)
 array_sized z k n s h = record { scalars_are = ap (λ a. a * n) h.scalars_are ∙ mul_comm (scalars s) n; depth_is = omega (arith, h.depth_is) }
 
--- the shapes of two lists of fields, one after the other
+-- concatenates the shapes of two lists of fields
 abbrev pub followed : FieldShapes → FieldShapes → FieldShapes
 followed no_field_shape gs = gs
 followed (next_field_shape x s fs) gs = next_field_shape x s (followed fs gs)
@@ -161,7 +161,7 @@ field_put shapes [] (next_field_shape y u fs) x t s h is = absurd h
 field_put shapes (f ∷ fields) no_field_shape x t s h is = absurd h
 field_put shapes (f ∷ fields) (next_field_shape y u fs) x t s h is = (h.0, h.1, field_put shapes fields fs x t s h.2 is)
 
--- the fields of a record so far, and their shapes
+-- holds if the fields of a record so far have these shapes, and their total size is right
 pub record GatheredAgrees (shapes : List Shape) (g : Gathered) (fs : FieldShapes) : Type 0 where
   pub fields : FieldsAgree (shape_in shapes) g.fields fs
   pub scalars_are : g.size.scalars ≡ field_scalars fs

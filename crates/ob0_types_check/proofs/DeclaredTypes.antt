@@ -1,7 +1,6 @@
--- Written types for which nothing is reported denote the shapes of their types in the state. Fields
--- are gathered from the left, but their shapes are built from the right: so a group gives its own
--- fields before any that follow (`GroupGathers`). Two sums of one definition are nested differently
--- in the other: see `grouped`.
+-- Written types for which no fault is reported denote the shapes that their types have in the state. Fields are
+-- gathered from the left, but their shapes are built from the right. So `GroupGathers` is about the fields of a group
+-- before any fields that follow. Definitions nest two sums differently; `grouped` proves that they are equal.
 use Rattle.std.proofs.Common.{◌≡◌, ℕ, suc, ◌+◌, Bool, true, false, List, [], ◌∷◌, ◌++◌, length, map, Option, Some, None, option_and_then, if◌then◌else◌, refl, sym, ap, ◌∙◌, subst, subst₂, le_refl, arith}
 use Rattle.ob0_scan.specs.declared.fault.Fault.{Fault}
 use Rattle.ob0_tree.specs.Places.{named, text_at, value_at}
@@ -29,13 +28,13 @@ use Rattle.ob0_types_check.proofs.DeclaredNames.{AreSeen, IsSeen, Numbering, eac
 use Rattle.ob0_types_check.proofs.DeclaredShapes.{GatheredAgrees, SizeAgrees, array_sized, followed, followed-assoc, followed-nothing, gathered_kept, is_limited, last_array, last_record, longer_more, longer_then, names_put, record_sized, size_agrees, table_long, table_more, with_fields-followed}
 use Rattle.ob0_types_check.proofs.DeclaredKnown.{Later, IsKnownAt, agrees_where_seen, later_same, later_then, seen_holds, holds_later}
 
--- if two lists of faults together are empty, so is each of them
+-- If two lists of faults joined together are empty, each of them is.
 pub none_both : (xs ys : List Fault) → xs ++ ys ≡ [] → (xs ≡ []) × (ys ≡ [])
 none_both [] ys e = (refl, e)
 none_both (x ∷ xs) ys e = absurd (cc)
 
--- a type, and the state after it; k is the ordinal of its first constructor, l the next ordinal
--- after its last
+-- Holds if a type's text denotes a shape and the state after it agrees with this shape. `k` is the ordinal of its first
+-- word ARRAY or RECORD, and `l` the next ordinal after its last.
 pub record Denotes (n : ℕ) (p : SoFar) (before : List Shape) (k l : ℕ) (given : Option Shape) (u : TypedAfter) : Type 0 where
   pub shape : Shape
   pub given_is : given ≡ Some shape
@@ -44,7 +43,7 @@ pub record Denotes (n : ℕ) (p : SoFar) (before : List Shape) (k l : ℕ) (give
   pub later : Later n p u.following before after
   pub known : shape_in after u.of ≡ Some shape
 
--- a name of a type
+-- A name of a type denotes that type's shape if no fault is reported for the name.
 named_denotes : (n : ℕ) (w : SoFar) (p : SoFar) (before : List Shape) (k l : ℕ) → l ≡ k → (token : ℕ) (m : Option (Meaning TypeId)) (o : Option (meant.Object Shape Signature)) → TableAgrees p.made before → MeansAlike (shape_in before) m o → (type_meant (facts_at w false) token m).faults ≡ []
     → Denotes n p before k l (type_of_name o) (record { of = (type_meant (facts_at w false) token m).known; following = p })
 named_denotes n w p before k l last token None o table alike e = absurd alike
@@ -53,7 +52,7 @@ named_denotes n w p before k l last token (Some (a_constant v)) o table alike e 
 named_denotes n w p before k l last token (Some (a_variable t)) o table alike e = absurd (cc)
 named_denotes n w p before k l last token (Some (a_procedure fs)) o table alike e = absurd (cc)
 
--- an array or a record that isn't too large
+-- holds if an array or a record denotes a shape within the limits
 pub record MadeDenotes (n : ℕ) (p : SoFar) (before : List Shape) (k l : ℕ) (s : Shape) (u : TypedAfter) : Type 0 where
   pub limited : within_limits s ≡ Some s
   pub denotes : Denotes n p before k l (Some s) u
@@ -84,7 +83,7 @@ made_denotes n p q before mid k l word ordinal parts size s here number own late
       };
     }
 
--- an array, from its length and the type of its elements
+-- An array denotes a shape if the type of its elements denotes one and no fault is reported for the array.
 array_denotes : (n : ℕ) (p : SoFar) (before : List Shape) (k l ordinal count : ℕ) (o : Operand TypeId) (given : Option Shape) (u : TypedAfter) → ordinal ≡ k → Denotes n p before (suc k) l given u → (array_made ordinal o (Some count) u).faults ≡ []
     → Denotes n p before k l (option_and_then (λ s. within_limits (array_shape k count s)) given) (array_made ordinal o (Some count) u).known
 array_denotes n p before k l ordinal count o given u here d none =
@@ -105,7 +104,7 @@ sized_array : (n : ℕ) (p : SoFar) (before : List Shape) (k l ordinal : ℕ) (o
 sized_array n p before k l ordinal o reported count given u e here d none =
     subst (λ z. (array_made ordinal o z u).faults ≡ [] → Denotes n p before k l (option_and_then (λ s. within_limits (array_shape k count s)) given) (array_made ordinal o z u).known) (sym e) (array_denotes n p before k l ordinal count o given u here d) none
 
--- the gathered fields, after the earlier ones
+-- holds if the fields gathered so far agree with the earlier shapes `first` followed by the shapes `own`
 pub record Gathers (n : ℕ) (p : SoFar) (before : List Shape) (k l : ℕ) (first : FieldShapes) (own : FieldShapes) (g : Gathered) : Type 0 where
   pub after : List Shape
   pub apart : Apart k l before after
@@ -126,7 +125,7 @@ names_following : (t : TypeId) (g : Gathered) (xs : List ℕ) → (with_field_na
 names_following t g [] = refl
 names_following t g (x ∷ xs) = names_following t (with_name t g x) xs
 
--- fields of one type
+-- Fields of one type have shapes if their type denotes one.
 names_gather : (n : ℕ) (w : Numbering) (g : Gathered) (before : List Shape) (k l : ℕ) (first : FieldShapes) (xs : List ℕ) (ys : List Name) (given : Option Shape) (u : TypedAfter) → g.following.source ≡ w.source → ys ≡ map (text_at w.source) xs → GatheredAgrees before g first → Denotes n g.following before k l given u
     → GroupGathers n g.following before k l first (λ later. option_and_then (λ s. Some (with_fields ys s later)) given) (gathered_after g xs u)
 names_gather n w g before k l first xs ys given u source texts h d =
@@ -156,7 +155,7 @@ nothing_agrees shapes p = record { fields = tt; scalars_are = refl; depth_is = r
 nothing_more : (n : ℕ) (g : Gathered) (before : List Shape) (k l : ℕ) → l ≡ k → (first : FieldShapes) → TableAgrees g.following.made before → GatheredAgrees before g first → Gathers n g.following before k l first no_field_shape g
 nothing_more n g before k l last first table h = record { after = before; apart = apart_same k l before last; later = later_same n g.following before table; agrees = subst (GatheredAgrees before g) (sym (followed-nothing first)) h }
 
--- a group of fields, and the groups after it
+-- If a group of fields and the later groups have shapes, all of them together do.
 pub both_gather : (n : ℕ) (p : SoFar) (before : List Shape) (k m l : ℕ) (first : FieldShapes) (given : FieldShapes → Option FieldShapes) (g h : Gathered) (others : Option FieldShapes) (one : GroupGathers n p before k m first given g)
     → GroupsGather n g.following one.gathers.after m l (followed first one.own) others h → GroupsGather n p before k l first (option_and_then given others) h
 both_gather n p before k m l first given g h others one other = record {
@@ -170,7 +169,7 @@ both_gather n p before k m l first given g h others one other = record {
   };
 }
 
--- a record with all its fields
+-- A record denotes a shape if its fields have shapes and no fault is reported for the record.
 record_denotes : (n : ℕ) (p : SoFar) (before : List Shape) (k l word ordinal : ℕ) (given : Option FieldShapes) (g : Gathered) → ordinal ≡ k → GroupsGather n p before (suc k) l no_field_shape given g → (record_made word ordinal g).faults ≡ []
     → Denotes n p before k l (option_and_then (λ fs. within_limits (record_shape k fs)) given) (record_made word ordinal g).known
 record_denotes n p before k l word ordinal given g here h none =
@@ -196,7 +195,7 @@ pub grouped : (o : Option FieldShapes) (f : FieldShapes → Option FieldShapes) 
 grouped None f g = refl
 grouped (Some a) f g = refl
 
--- the ordinals of constructors inside one another, and side by side
+-- Sums of the numbers of words ARRAY and RECORD may be regrouped.
 later_constructor : (k n : ℕ) → suc k + n ≡ k + suc n
 later_constructor k n = omega arith
 

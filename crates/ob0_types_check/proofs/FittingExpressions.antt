@@ -1,9 +1,8 @@
--- If nothing is reported for an expression, its operand has the right type and value.
--- The walk works over any meanings with `TokenFits`. It is used twice: with the full meanings, and
--- with the constants only. Over constants a variable is stuck, and its operand has no value. So the
--- operand's value is the one over constants in both cases. The lemma of a production isn't
--- recursive (`addend-whole`); the recursion only splits lists of tokens and of faults, and cites
--- these lemmas.
+-- If no fault is reported for an expression, its operand has the right type and value.
+-- The proofs work over any meanings with `TokenFits`. They are used twice: for the full meanings, and for the constants
+-- only. Over constants a variable has no value, so the operand's value is the one over constants in both cases. The
+-- lemma of a production isn't recursive (`addend-whole`). The recursion only splits lists of tokens and of faults, and
+-- uses these lemmas.
 use Rattle.std.proofs.Common.{◌≡◌, ℕ, true, false, List, [], ◌∷◌, ◌++◌, Option, Some, None, option_and_then, is_some, pos, refl, sym, ap, ◌∙◌}
 use Rattle.ob0_tree.specs.declared.tree.AddOperator.{AddOperator}
 use Rattle.ob0_tree.specs.declared.tree.MultiplyOperator.{MultiplyOperator}
@@ -27,7 +26,7 @@ use Rattle.ob0_types_check.proofs.Operands.{IsOf, added-fits, complement-of, com
 use Rattle.ob0_types_check.proofs.Unreported.{goes-on, none-reported, then-assoc, then-itself}
 use Rattle.ob0_types_check.proofs.Valued.{addend-valued, multiplier-valued, name-valued, negation-valued, parts-valued, related-valued, simple-valued, term-valued}
 
--- an operand with its type and value
+-- holds if an operand has this type and this value
 pub record Fits {T : Type 0} (shape : T → Option Shape) (o : Operand T) (type : Option Shape) (value : Option Value) : Type 0 where
   pub of : Shape
   pub known : shape o.of ≡ Some of
@@ -35,7 +34,8 @@ pub record Fits {T : Type 0} (shape : T → Option Shape) (o : Operand T) (type 
   pub valued : o.value ≡ value
   pub scalar : IsOf of o.value
 
--- a name, which may be a place if it is a variable's
+-- holds if the operand of a name has the type and the value of its object; an operand that may be a place is a
+-- variable's
 pub record NameFits {T N P : Type 0} (facts : Facts T) (shape : T → Option Shape) (label : ℕ → N) (meaning : Meanings N Shape P) (x : ℕ) : Type 0 where
   pub fits : Fits shape (name_operand facts x).known (object_type (meaning.object_for (label x))) (constant_of (meaning.object_for (label x)))
   pub placed : (name_operand facts x).known.is_place ≡ true → meaning.object_for (label x) ≡ Some (a_variable fits.of)
@@ -56,7 +56,7 @@ pub split-tokens : {T N P : Type 0} (facts : Facts T) (shape : T → Option Shap
 split-tokens facts shape label meaning [] ys h = (tt, h)
 split-tokens facts shape label meaning (x ∷ xs) ys h = let rest = split-tokens facts shape label meaning xs ys h.1 in ((h.0, rest.0), rest.1)
 
--- a part of a designator has no value, and is a place if the whole is
+-- A part of a designator has no value, and it is a place if the whole designator is.
 module _ {T : Type 0} (facts : Facts T) where
   pub parts-none : (x : Operand T) (path : Tree ℕ (items selector)) → x.value ≡ None → (reported_selectors facts x path).known.value ≡ None
   unfolding reported_expression
@@ -95,7 +95,8 @@ module _ {T N P : Type 0} (facts : Facts T) (shape : T → Option Shape) (types 
   abbrev pub among : Meanings N Place (Unit {0})
   among = constants_only meaning
 
-  -- states that the operand of a part of an expression is right
+  -- holds if the operand of an expression has the expression's type and value; the next three are about a simple
+  -- expression, a term and a factor
   abbrev pub FitsExpression : Tree ℕ expression → Type 0
   FitsExpression e = Fits shape (reported_expression facts e).known (type_of meaning (tree e)) (given_value (evaluate among [] (tree e)))
 
@@ -108,7 +109,8 @@ module _ {T N P : Type 0} (facts : Facts T) (shape : T → Option Shape) (types 
   abbrev pub FitsFactor : Tree ℕ factor → Type 0
   FitsFactor f = Fits shape (reported_factor facts f).known (type_of_factor meaning (tree f)) (given_value (evaluate_factor among [] (tree f)))
 
-  -- the same for a chain after earlier operands
+  -- holds if the operand after further terms, which follow an operand `x`, has the right type and value; the next one
+  -- is about factors
   abbrev pub FitsAddends : Operand T → Shape → Tree ℕ (items addend) → Type 0
   FitsAddends x s rest = Fits shape (reported_addends facts x rest).known (type_of_addends meaning s (tree rest)) (option_and_then (λ v. given_value (evaluate_addends among [] v (tree rest))) x.value)
 
@@ -116,13 +118,13 @@ module _ {T N P : Type 0} (facts : Facts T) (shape : T → Option Shape) (types 
   FitsMultipliers x s rest =
       Fits shape (reported_multipliers facts x rest).known (type_of_multipliers meaning s (tree rest)) (option_and_then (λ v. given_value (evaluate_multipliers among [] v (tree rest))) x.value)
 
-  -- the type after selectors
+  -- holds if the operand after selectors has the right type
   pub record FitsSelectors (o : Operand T) (s : Shape) (path : Tree ℕ (items selector)) : Type 0 where
     pub of : Shape
     pub known : shape (reported_selectors facts o path).known.of ≡ Some of
     pub typed : type_at meaning s (tree path) ≡ Some of
 
-  -- each production, from its parts
+  -- Each production fits if its parts fit.
 
   related-whole : (r : Relation) (a b : Tree ℕ simple) → FitsSimple a → FitsSimple b → (relate_operands facts r (reported_simple facts a).known (reported_simple facts b).known).faults ≡ [] → FitsExpression (compares a (one (relates r b)))
   unfolding reported_expression type_of evaluate

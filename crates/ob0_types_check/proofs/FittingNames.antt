@@ -1,7 +1,6 @@
--- The meaning of a name agrees with its object. Only the tokens of the tree itself are considered:
--- a declaration remains in the state after its scope has ended, although its name has no meaning
--- there. The same list requires that a field's token is spelled as in the text. So fields need no
--- more than names, whatever the labels are.
+-- The meaning of a name agrees with its object. Only the tokens of the tree itself are considered. The reason is that a
+-- declaration remains in the state after its scope has ended, although its name has no meaning there. The same list of
+-- tokens requires that a field is spelled as in the text. So fields need no further facts, whatever the labels are.
 use Rattle.std.proofs.Common.{◌≡◌, ℕ, Bool, true, false, true≢false, List, [], ◌∷◌, Option, Some, None, option_map, is_some, if◌then◌else◌, refl, sym, subst, subst₂}
 use Rattle.ob0_tree.specs.declared.tree.Role.{Role}
 use Rattle.ob0_tree.specs.declared.tree.Role.TheVariants as role
@@ -17,7 +16,7 @@ use Rattle.ob0_types_check.proofs.FittingExpressions.{Fits, TokenFits, TokensFit
 use Rattle.ob0_types_check.proofs.Operands.{none-of, some-of}
 use Rattle.ob0_scan.specs.declared.fault.Code.TheVariants as code
 
--- the operand of a name, and the name's object
+-- holds if the operand of a name has the type and the value of the name's object
 pub record ObjectFits {T P : Type 0} (shape : T → Option Shape) (k : Operand T) (o : Option (Object Shape P)) : Type 0 where
   pub fits : Fits shape k (object_type o) (constant_of o)
   pub placed : k.is_place ≡ true → o ≡ Some (meant.a_variable fits.of)
@@ -50,7 +49,8 @@ module _ {T : Type 0} (facts : Facts T) (shape : T → Option Shape) (types : Ty
   holds-fits x (Some (a_variable t)) o (s, known, holds) h =
       subst (λ o. ObjectFits shape (named_value facts x (Some (a_variable t))).known o) (sym holds) (variable-fits x t s known facts.only_constants h)
 
-  -- the same in constant expressions, in which names may only refer to constants
+  -- The operand of a name in a constant expression, in which names may only refer to constants, has the type and value
+  -- of its object.
   no-variable : (x : ℕ) (t : T) (b : Bool) → b ≡ true → (if b then record { known = a_name facts.types.unknown x; faults = at_token facts code.NotConstant x } else right (a_name t x)).faults ≡ [] → ⊥
   no-variable x t true only h = cc
   no-variable x t false only h = true≢false (sym only)

@@ -34,7 +34,7 @@ module _ {T N P : Type 0} (facts : Facts T) (shape : T → Option Shape) (types 
   unfolding variable_type
   variable-typed x path s u holds typed = ap (λ o. elim o [ Some (a_variable s) ↦ type_at meaning s (here path) | _ ↦ None ]) holds ∙ typed
 
-  -- an operand, and the type of its variable
+  -- holds if an operand has the type of the variable that the expression designates
   pub record IsPlaced (o : Operand T) (e : Tree N expression) : Type 0 where
     pub of : Shape
     pub known : shape o.of ≡ Some of
@@ -78,7 +78,7 @@ module _ {T N P : Type 0} (facts : Facts T) (shape : T → Option Shape) (types 
       placed-factor f (split (ids f) [] (split (ids (product f end)) [] (split (ids (sum None (product f end) end)) [] k).0).0).0
       (none-reported (reported_factor facts f).faults _ (none-reported (reported_term facts (product f end)).faults _ h).0).0 e
 
-  -- all the facts about an operand
+  -- An operand for which no fault is reported agrees with its expression (`OperandFits`).
   pub operand-fits : (e : Tree ℕ expression) → Agreed e → (reported_expression facts e).faults ≡ [] → OperandFits shape meaning (reported_expression facts e).known (here e)
   operand-fits e k h =
       let fe : FitsExpression facts shape types label meaning e = expression-fits facts shape types label meaning e k h in

@@ -1,4 +1,4 @@
--- Statements for which nothing is reported fit.
+-- Statements fit if no fault is reported for them.
 use Rattle.std.proofs.Common.{◌≡◌, ℕ, Bool, true, false, ◌&&◌, not, nat_eq, List, [], ◌∷◌, ◌++◌, length, map, Option, Some, None, if◌then◌else◌, refl, sym, ap, ◌∙◌, arith, eqb-true}
 use Rattle.ob0_scan.specs.declared.fault.Code.TheVariants as code
 use Rattle.ob0_types_table.specs.Tables.{mode_of}
@@ -34,7 +34,7 @@ not-false : (b : Bool) → not b ≡ false → b ≡ true
 not-false true h = refl
 not-false false h = sym h
 
--- if a count or its fault isn't reported, the count is right and the rest has no fault
+-- If a wrong number isn't reported, the number is right and the other faults are empty.
 counted : {A : Type 0} (b : Bool) (xs : List A) (x : A) → (if b then xs else x ∷ []) ≡ [] → (b ≡ true) × (xs ≡ [])
 counted true xs x h = (refl, h)
 counted false xs x h = absurd (cc)
@@ -56,7 +56,7 @@ module _ {T N : Type 0} (facts : Facts T) (shape : T → Option Shape) (types : 
   pub known-operand : (e : Tree ℕ expression) → Agreed e → (reported_expression facts e).faults ≡ [] → OperandFits shape meaning (reported_expression facts e).known (here e)
   known-operand e k h = operand-fits facts shape types label meaning e (tokens-fit facts shape types label meaning (ids e) k) h
 
-  -- an expression that must have a type
+  -- An expression that must have a type has it if no fault is reported.
   requested-typed : (wanted : T) (w : Shape) (e : Tree ℕ expression) → shape wanted ≡ Some w → Agreed e → reported_required facts wanted e ≡ [] → type_of meaning (here e) ≡ Some w
   unfolding reported_required
   requested-typed wanted w e hw k h =
@@ -69,7 +69,7 @@ module _ {T N : Type 0} (facts : Facts T) (shape : T → Option Shape) (types : 
   unfolding condition_fits
   condition-fits e k h = ap (agree (Some boolean_shape)) (requested-typed facts.types.boolean boolean_shape e types.boolean k h)
 
-  -- assignments
+  -- holds if the name that is assigned to is a variable of the reported type
 
   pub record IsAssigned (reported : Reported T) (o : Option (Object Shape Signature)) : Type 0 where
     pub of : Shape
@@ -96,7 +96,7 @@ module _ {T N : Type 0} (facts : Facts T) (shape : T → Option Shape) (types : 
       (variable-typed facts shape types label meaning x path a.of (Some fs.of) a.holds fs.typed)
       (requested-typed (reported_target facts x path).known.of fs.of e fs.known rest.1 parts.1)
 
-  -- calls
+  -- Arguments and calls fit if no fault is reported for them.
 
   passed-fits : (b : Bool) (of : T) (g : Formal) (e : Tree ℕ expression) (o : Operand T) → OperandFits shape meaning o (here e) → g.mode ≡ mode_of b → shape of ≡ Some g.shape
       → (if b && not o.is_place then record { known = facts.types.unknown; faults = at_operand facts code.NotVariable o } else required facts of o).faults ≡ [] → argument_fits meaning g (here e) ≡ true

@@ -1,8 +1,7 @@
--- The fields of a record are gathered name by name and group by group. A record's fields are in
--- order, and the first field with a name counts; the code has them in a table with a map. Sizes are
--- sums in the definition, and sums that saturate at the limit of `usize` in the code. `IsGathered`
--- states that the code has gathered the same fields as the definition, with the size cut in this
--- way.
+-- The fields of a record are gathered name by name and group by group. They are in order, and the first field with a
+-- name is found; the code keeps them in a table with a map. Sizes are sums in the definition. In the code these sums
+-- saturate at the limit of `usize`. `IsGathered` states that the code has gathered the same fields as the definition,
+-- with the size capped at this limit.
 use Rattle.std.proofs.Common.{◌≡◌, ℕ, ◌+◌, ◌-◌, ◌^◌, ◌<◌, ◌≤◌, min, max, List, [], ◌∷◌, ◌++◌, length, get_or, drop, refl, sym, ap, ◌∙◌, subst, arith}
 use Rattle.std.proofs.lemmas.List.{drop_all, drop_more}
 use Rattle.ob0_scan.specs.declared.fault.Fault.{Fault}
@@ -20,14 +19,14 @@ use Rattle.ob0_types_check.specs.WrittenTypeFaults.{Gathered, beside, nothing_ga
 use Rattle.ob0_types_check.proofs.Chains.{Chained, chain_goes_on}
 use Rattle.ob0_types_check.proofs.ReportedTypes.{group_reported, groups_chain}
 
--- the saturated sum of two sizes
+-- Adding to a capped size and capping the sum is the same as capping the exact sum.
 beside_counted : (z w : Size) → counted (beside (counted z) w) ≡ counted (beside z w)
 beside_counted z w =
     let s : min (min z.scalars (2 ^ 64 - 1) + w.scalars) (2 ^ 64 - 1) ≡ min (z.scalars + w.scalars) (2 ^ 64 - 1) = omega arith in
     let d : min (max (min z.depth (2 ^ 64 - 1)) w.depth) (2 ^ 64 - 1) ≡ min (max z.depth w.depth) (2 ^ 64 - 1) = omega arith in
     λ i. record { scalars = s i; depth = d i }
 
--- adds a name
+-- If the code has gathered the same fields, it still has when both add a field.
 pub one_more : (g : Gathered) (s : Supposed) (old new : gathering.Gathered) (token : ℕ) (t : TypeId) (w : Size) → IsGathered g s old
     → fields_in new.fields.items ≡ fields_in old.fields.items ++ record { name = text_at s.resolved.now.module_read.source token; of = t } ∷ []
     → size_of new.size ≡ counted (beside (size_of old.size) w) → w ≡ size_at (so_far_in s).made t → IsGathered (with_name t g token) s new
@@ -37,7 +36,7 @@ one_more g s old new token t w h fields size is = record {
   following = h.following;
 }
 
--- states that the names so far and the remaining ones are all names
+-- holds if the names gathered so far and the remaining names are all names
 pub record NamesGathered (t : TypeId) (g : Gathered) (s : Supposed) (xs : List ℕ) (done : ℕ) (now : gathering.Gathered) : Type 0 where
   pub out : Gathered
   pub is : IsGathered out s now
@@ -56,7 +55,7 @@ pub names_end : {t : TypeId} {g : Gathered} {s : Supposed} {xs : List ℕ} {done
 names_end {t = t} {s = s} {xs = xs} {done = done} {now = now} n over =
     subst (λ g. IsGathered g s now) (sym (ap (with_field_names t n.out) (drop_all done xs over)) ∙ n.left) n.is
 
--- states that the groups so far and the remaining ones are all groups
+-- holds if the groups gathered so far and the remaining groups are all groups
 pub record GroupsGathered (around : ℕ) (start : Gathered) (before : List Fault) (xs : List Fields) (done : ℕ) (now : List Fault) (s : Supposed) (gathered : gathering.Gathered) : Type 0 where
   pub out : Gathered
   pub is : IsGathered out s gathered

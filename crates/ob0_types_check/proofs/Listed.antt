@@ -1,6 +1,6 @@
--- Faults that are reported one list after another, and by loops over lists. `reported_both` joins
--- two lists, and `reported_following` appends a list after a result. The loops' invariants are
--- `EachSoFar` and, for arguments and their parameters, `PairSoFar`.
+-- Faults that are reported list after list, and by loops over lists. `reported_both` joins two lists, and
+-- `reported_following` appends a list after a result. The invariants of the loops are `EachSoFar` and, for arguments
+-- with their parameters, `PairSoFar`.
 use Rattle.std.proofs.Common.{◌≡◌, ℕ, ◌+◌, ◌<◌, ◌≤◌, List, [], ◌∷◌, ◌++◌, length, get_or, drop, map, refl, sym, ap, ◌∙◌, append-nil, append_assoc, arith}
 use Rattle.std.proofs.lemmas.List.{drop_all, drop_more}
 use Rattle.ob0_scan.specs.declared.fault.Fault.{Fault}
@@ -10,16 +10,16 @@ use Rattle.ob0_types_check.specs.Operations.{ReportsAfter}
 pub reported_both : (before a b : List Fault) {between after : List Fault} → between ≡ before ++ a → after ≡ between ++ b → after ≡ before ++ (a ++ b)
 reported_both before a b p q = q ∙ ap (λ f. f ++ b) p ∙ append_assoc before a b
 
--- the faults that are reported after a result
+-- If a result is reported and then further faults, the faults are the result's faults and then the further faults.
 pub reported_following : {A : Type 0} {before between after : List Fault} {x : A} {t : Reported A} (next : A → List Fault) → ReportsAfter before between x t → after ≡ between ++ next x → after ≡ before ++ (t.faults ++ next t.known)
 reported_following {before = before} {x = x} {t = t} next s q = reported_both before t.faults (next x) s.reported q ∙ ap (λ z. before ++ (t.faults ++ next z)) s.known
 
--- states that the faults of a list are the faults of its elements, from its head
+-- holds if the faults of a list are the faults of its elements, one after another
 pub record IsEach {A : Type 0} (all : List A → List Fault) (each : A → List Fault) : Type 0 where
   pub ended : all [] ≡ []
   pub stepped : (x : A) (xs : List A) → all (x ∷ xs) ≡ each x ++ all xs
 
--- states that the faults so far, with the faults of the remaining elements, are the faults of all
+-- holds if the faults so far, followed by the faults of the remaining elements, are the faults of all elements
 pub record EachSoFar {A : Type 0} (all : List A → List Fault) (before : List Fault) (xs : List A) (done : ℕ) (now : List Fault) : Type 0 where
   pub so_far : now ++ all (drop done xs) ≡ before ++ all xs
 
@@ -35,7 +35,7 @@ pub each_ends : {A : Type 0} {all : List A → List Fault} {each : A → List Fa
 each_ends {all = all} {xs = xs} {done = done} {now = now} h s over =
     sym (append-nil now) ∙ sym (ap (λ f. now ++ f) (ap all (drop_all done xs over) ∙ h.ended)) ∙ s.so_far
 
--- two lists of the same length, side by side
+-- holds if the faults of two lists are the faults of their elements, pair by pair
 pub record IsPairwise {A B : Type 0} (all : List A → List B → List Fault) (each : A → B → List Fault) : Type 0 where
   pub ended : all [] [] ≡ []
   pub stepped : (x : A) (y : B) (xs : List A) (ys : List B) → all (x ∷ xs) (y ∷ ys) ≡ each x y ++ all xs ys
@@ -60,7 +60,7 @@ pairs_end {all = all} {xs = xs} {ys = ys} {done = done} {now = now} h s over pas
 pub nothing_reported : (before : List Fault) {all : List Fault} → all ≡ [] → before ≡ before ++ all
 nothing_reported before e = sym (append-nil before) ∙ sym (ap (λ f. before ++ f) e)
 
--- states that a value has been appended once for each element of a list so far
+-- holds if a value has been appended once for each element of a list so far
 pub record RepeatedSoFar {A B : Type 0} (y : A) (before : List A) (xs : List B) (done : ℕ) (now : List A) : Type 0 where
   pub so_far : now ++ map (λ (x : B). y) (drop done xs) ≡ before ++ map (λ (x : B). y) xs
 

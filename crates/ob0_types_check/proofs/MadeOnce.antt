@@ -1,19 +1,19 @@
--- Each ARRAY and RECORD of the text makes one type: between two places, types are made only by the
--- words between them. So a type is at only one place of the table. Statements need this because
--- assignments and arguments compare two types (`Fresh`). `Apart k l before after`, a relation
--- between two tables, says which constructors made the new types: constructors outside this range
--- made nothing new. It composes without a premise, so it is a field of each record of the walk over
--- declarations.
+-- Each word ARRAY and RECORD of the text makes one type, because between two places types are made only by the words
+-- between them. So a type is at only one index of the table. Statements need this because assignments and arguments
+-- compare two types (`Fresh`). `Apart k l before after` relates two tables. It states that the new types were made by
+-- the words with ordinals from `k` up to `l`. Two such steps can be joined without a further premise, so `Apart` is a
+-- field of each record about declarations.
 use Rattle.std.proofs.Common.{◌≡◌, ℕ, zero, suc, ◌+◌, ◌<◌, ◌≤◌, List, [], ◌∷◌, ◌++◌, length, slice_get, Some, refl, sym, ap, ◌∙◌, subst, arith, le_refl, le_trans, length-append}
 use Rattle.ob0_language_values.specs.Values.{Shape}
 use Rattle.ob0_types_check.specs.WellTypedLaws.{EachOnce, constructor_of}
 use Rattle.ob0_types_check.proofs.Unreported.{some-same}
 
--- no type is made by the constructor with this ordinal
+-- holds if no type of the list is made by the word with this ordinal
 abbrev pub Lacks : ℕ → List Shape → Type 0
 Lacks j shapes = (i : ℕ) (s : Shape) → slice_get shapes i ≡ Some s → constructor_of s ≡ Some j → ⊥
 
--- the types made by the constructors from k up to l
+-- Holds if the list grew by as many types as there are ordinals from `k` up to `l`, without `l`. Words ARRAY and RECORD
+-- with other ordinals made no new type.
 pub record Apart (k l : ℕ) (before after : List Shape) : Type 0 where
   pub le : k ≤ l
   pub counted : length after + k ≡ length before + l
@@ -37,7 +37,7 @@ apart_then k m l a b c f g = record {
   once = λ fresh h. g.once (λ j from to. f.outside j (λ _ below. not_below m j from below) (fresh j (le_trans f.le from) to)) (f.once (λ j from to. fresh j from (le_trans to g.le)) h);
 }
 
--- the element at a position of a list after appending another
+-- An element of a list with an item appended is an element of the list or that item.
 pushed : {A : Type 0} (xs : List Shape) (x : Shape) (i : ℕ) (s : Shape) → slice_get (xs ++ x ∷ []) i ≡ Some s → (slice_get xs i ≡ Some s → A) → (i ≡ length xs → x ≡ s → A) → A
 pushed [] x zero s h old new = new refl (some-same x s h)
 pushed [] x (suc i) s h old new = absurd (cc)
@@ -55,7 +55,7 @@ pushed_once xs x k number lacks h i j c s t at there is also =
     (λ e same. absurd (lacks i s old (is ∙ sym (sym number ∙ (ap constructor_of same ∙ also))))))
     (λ e same. pushed xs x j t there (λ older. absurd (lacks j t older (also ∙ sym (sym number ∙ (ap constructor_of same ∙ is))))) (λ f other. e ∙ sym f))
 
--- an array or record that is made after its parts
+-- An array or record that is made after its parts extends the range of words by its own word.
 pub apart_made : (k l : ℕ) (before mid : List Shape) (s : Shape) → constructor_of s ≡ Some k → Apart (suc k) l before mid → Apart k l before (mid ++ s ∷ [])
 apart_made k l before mid s number f = record {
   le = omega (arith, f.le);
@@ -64,7 +64,8 @@ apart_made k l before mid s number f = record {
   once = λ fresh h. pushed_once mid s k number (f.outside k (λ from to. absurd (omega (arith, from))) (fresh k (le_refl k) f.le)) (f.once (λ j from to. fresh j (omega (arith, from)) to) h);
 }
 
--- the constructors from k upwards haven't made a type yet
+-- holds if the list has `k` types, no word with an ordinal from `k` upwards has made one of them, and no word has made
+-- two
 pub record Fresh (k : ℕ) (shapes : List Shape) : Type 0 where
   pub counted : length shapes ≡ k
   pub lacks : (j : ℕ) → k ≤ j → Lacks j shapes

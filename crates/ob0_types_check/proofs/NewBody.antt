@@ -1,4 +1,4 @@
--- If a module fits except for the statements of one body, only these have faults.
+-- If a module fits without the statements of one body, only these statements have faults.
 use Rattle.std.proofs.Common.{◌≡◌, ℕ, zero, suc, Bool, true, false, ◌||◌, [], ◌∷◌, ◌++◌, eq-eqb, refl, sym, ap, ◌∙◌, subst}
 use Rattle.ob0_tree.specs.Parsed.{tree_of}
 use Rattle.ob0_tree.specs.Tree.{Tree, block, body, constants, declares, declares_procedure, end, has_body, item, items, maybe, more, none, procedure, type_names, variables}
@@ -27,7 +27,7 @@ use Rattle.ob0_types_check.proofs.WithoutNames.{left_placed}
 
 -- ---- the state is the same without the statements of a body
 
--- the state after a block's constants, types and variables
+-- returns the state after a block's constants, types and variables
 abbrev declared_so_far : SoFar → Tree ℕ (maybe constants) → Tree ℕ (maybe type_names) → Tree ℕ (maybe variables) → SoFar
 declared_so_far p cs ts vs = (reported_variables (reported_types (reported_constants p (section_constants cs)).known (section_types ts)).known (section_variables vs)).known
 
@@ -52,15 +52,15 @@ mutual
 
 -- ---- one step after another
 
--- both steps have no fault
+-- If both steps have no fault, the two together have none.
 nothing_then : {A B : Type 0} (t : Reported A) (next : A → Reported B) (x : B) → t.faults ≡ [] → next t.known ≡ right x → (t >>= next) ≡ right x
 nothing_then t next x h e = λ i. record { known = (e i).known; faults = h i ++ (e i).faults }
 
--- the first step has no fault
+-- If the first step has no fault, the two steps together are the second step.
 known_then : {A B : Type 0} (t : Reported A) (y : A) (next : A → Reported B) → t ≡ right y → (t >>= next) ≡ next y
 known_then t y next e = ap (λ v. v >>= next) e
 
--- the second steps report the same after the first
+-- Two continuations that report the same for the first step's result give the same report.
 same_then : {A B : Type 0} (t : Reported A) (next other : A → Reported B) → next t.known ≡ other t.known → (t >>= next) ≡ (t >>= other)
 same_then t next other e = λ i. record { known = (e i).known; faults = t.faults ++ (e i).faults }
 
@@ -108,7 +108,7 @@ module _ (wanted : ℕ → Bool) where
 
 -- ---- if only one body has faults, this body and others report the same as all
 
--- the parts of a block without any fault
+-- If a block has no fault, its procedures and its statements have none.
 procedures_none : (p : SoFar) (cs : Tree ℕ (maybe constants)) (ts : Tree ℕ (maybe type_names)) (vs : Tree ℕ (maybe variables)) (ps : Tree ℕ (items procedure)) (a : Tree ℕ (maybe body)) → (reported_block p (has_body (declares cs ts vs ps) a)).faults ≡ []
     → ((reported_procedures (declared_so_far p cs ts vs) ps).faults ≡ []) × ((reported_body (reported_procedures (declared_so_far p cs ts vs) ps).known a).faults ≡ [])
 unfolding reported_block
@@ -123,16 +123,16 @@ procedures_none p cs ts vs ps a h =
     let a₃ = none_both t₃.faults (t₄.faults ++ t₅.faults) a₂.1 in
     none_both t₄.faults t₅.faults a₃.1
 
--- the state after all procedures is the same without one body
+-- The state after all procedures is the same if the statements of one body are left out.
 known_after : (k : ℕ) (way : Way) (w : Walked) (ps : Tree ℕ (items procedure)) → (reported_procedures w.so_far (procedures_without k way ps)).known ≡ (procedures_with every w ps).known.so_far
 known_after k way w ps = procedures_known k way w.so_far ps ∙ sym (ap (λ (t : Reported SoFar). t.known) (procedures_forget w ps))
 
 module _ (wanted : ℕ → Bool) where
-  -- if procedures have no fault, some of their bodies report the same as all
+  -- If procedures have no fault, walking only some of their bodies reports the same as walking all.
   procedures_all : (w : Walked) (ps : Tree ℕ (items procedure)) → (reported_procedures w.so_far ps).faults ≡ [] → procedures_with wanted w ps ≡ procedures_with every w ps
   procedures_all w ps h = procedures_nothing wanted w ps h ∙ sym (procedures_nothing every w ps h)
 
-  -- a block reports the same as all of it if its procedures and its statements do
+  -- A block reports the same for the wanted bodies as for all, if its procedures and its statements do.
   block_all : (own : ℕ) (w : Walked) (cs : Tree ℕ (maybe constants)) (ts : Tree ℕ (maybe type_names)) (vs : Tree ℕ (maybe variables)) (ps : Tree ℕ (items procedure)) (a : Tree ℕ (maybe body))
       → procedures_with wanted (further w (declared_so_far w.so_far cs ts vs)) ps ≡ procedures_with every (further w (declared_so_far w.so_far cs ts vs)) ps
       → body_if (wanted own) own (procedures_with every (further w (declared_so_far w.so_far cs ts vs)) ps).known a ≡ body_if true own (procedures_with every (further w (declared_so_far w.so_far cs ts vs)) ps).known a
@@ -187,11 +187,11 @@ module _ (wanted : ℕ → Bool) where
         let a = none_both t.faults (reported_block q (block_without way b)).faults h in
         same_then t (λ g. block_with wanted closing (further w (after_heading x g)) b) (λ g. block_with every closing (further w (after_heading x g)) b) (block_but way closing (further w q) b a.1 e)
 
--- a body is in the list that has only this body
+-- A closing name is in the list that contains only this closing name.
 among_itself : (closing : ℕ) → is_among (closing ∷ []) closing ≡ true
 among_itself closing = ap (λ b. b || false) (eq-eqb closing closing refl)
 
--- in a module that fits except for one body, only names, declarations and that body have faults
+-- If a module fits without the statements of one body, walking only that body reports the same as walking all.
 pub new_body_reported : (r : Resolution) (closing : ℕ) → IsResolution r → FitsWithout r closing → module_with (is_among (closing ∷ [])) r ≡ module_with every r
 unfolding fits_over
 new_body_reported r closing is f =

@@ -1,6 +1,5 @@
--- Operations for which nothing is reported have operands of the required types and a result of the
--- right type. A type with a shape isn't the same as the unknown type (`is-known`). So "known" needs
--- no separate fact, and the definitions' tests for the unknown type disappear.
+-- If no fault is reported for an operation, its operands have the required types and its result has the right type. A
+-- type that has a shape isn't the unknown type (`is-known`). So no separate fact is needed to say that a type is known.
 use Rattle.std.proofs.Common.{◌≡◌, ℕ, Bool, true, false, ◌||◌, cond, [], if◌then◌else◌, Option, Some, None, option_and_then, option_map, ℤ, ◌+ℤ◌, ◌-ℤ◌, ◌*ℤ◌, neg_ℤ, refl, sym, ap, ◌∙◌, subst}
 use Rattle.ob0_scan.specs.declared.fault.Code.TheVariants as code
 use Rattle.ob0_types_table.specs.Operators.{product_value, sum_value}
@@ -22,7 +21,7 @@ use Rattle.ob0_types_check.specs.Operations.{add_operands, required, required_bo
 use Rattle.ob0_types_check.specs.Agreement.{FormAgrees, TypesAgree}
 use Rattle.ob0_types_check.proofs.Unreported.{first-of, first-reported, none-if, none-reported, not-true, some-none, some-same}
 
--- states that a value, if there is one, has this type
+-- holds if a value, when present, has this type
 abbrev pub IsOf : Shape → Option Value → Type 0
 IsOf s c = (v : Value) → c ≡ Some v → value_type v ≡ Some s
 
@@ -32,7 +31,7 @@ none-of s v e = absurd (cc)
 pub some-of : (s : Shape) (w : Value) → value_type w ≡ Some s → IsOf s (Some w)
 some-of s w h v e = subst (λ u. value_type u ≡ Some s) (some-same w v e) h
 
--- the results of operators
+-- returns the type of an operator's result
 abbrev shape_added : AddOperator → Shape
 shape_added add_operator.Add = integer_shape
 shape_added add_operator.Subtract = integer_shape
@@ -152,7 +151,7 @@ module _ {T : Type 0} (facts : Facts T) (shape : T → Option Shape) (types : Ty
       let (known, right) = requested-fits wanted b t w ht hw none in
       (ap (λ c. (if c then left else wrong).known) fit ∙ (ap (λ c. if c then (required facts wanted b).known else facts.types.unknown) same ∙ known), same-shape a.of wanted s w hs hw same, right)
 
-  -- the types that operators require have shapes
+  -- The types that operators require have shapes.
 
   add-wanted : (o : AddOperator) → shape (required_by_add facts.types o) ≡ Some (shape_added o)
   add-wanted add_operator.Add = types.integer
@@ -185,7 +184,7 @@ module _ {T : Type 0} (facts : Facts T) (shape : T → Option Shape) (types : Ty
   truth-known : (t : T) (s : Shape) → shape t ≡ Some s → shape (comparison_type facts.types t) ≡ Some boolean_shape
   truth-known t s h = ap (λ b. shape (if b then facts.types.unknown else facts.types.boolean)) (not-true (facts.types.same t facts.types.unknown) (is-known t s h)) ∙ types.boolean
 
-  -- operations
+  -- An operation for which no fault is reported has the right type, and its value, when present, has that type.
 
   pub added-fits : (o : AddOperator) (a b : Operand T) (s t : Shape) → shape a.of ≡ Some s → shape b.of ≡ Some t → (add_operands facts o a b).faults ≡ []
       → (w : Shape) × (shape (add_operands facts o a b).known.of ≡ Some w) × (add_type o s t ≡ Some w) × (IsOf s a.value → IsOf w (add_operands facts o a b).known.value)
@@ -219,7 +218,7 @@ module _ {T : Type 0} (facts : Facts T) (shape : T → Option Shape) (types : Ty
       let (known, right) = requested-fits facts.types.boolean o s boolean_shape hs types.boolean (none-reported _ _ h).0 in
       (ap shape known ∙ types.boolean, ap complement_type right)
 
-  -- selectors
+  -- A selection for which no fault is reported has the right type.
 
   found-fits : (x : ℕ) (o : Option T) (t : Option Shape) → option_map shape o ≡ option_map Some t → (found_field facts x o).faults ≡ [] → (u : Shape) × (shape (found_field facts x o).known ≡ Some u) × (t ≡ Some u)
   found-fits x None t e h = absurd (cc)

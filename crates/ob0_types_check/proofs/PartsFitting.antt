@@ -1,4 +1,4 @@
--- The facts about expressions and statements that declarations use: they fit if nothing is reported
+-- The laws about expressions and statements that the proofs about declarations use: they fit if no fault is reported
 -- for them.
 use Rattle.ob0_language_names.specs.Names.{Name}
 use Rattle.ob0_types_check.specs.ReportLaws.{ConstantsFit, LengthsFit, StatementsFit, TypesOfTables}

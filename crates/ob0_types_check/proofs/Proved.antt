@@ -1,4 +1,4 @@
--- The laws of reported expressions.
+-- The proofs of the laws about reported expressions.
 use Rattle.std.proofs.Common.{◌≡◌, ℕ, Bool, true, false, [], Option, Some, None, option_map, is_some, if◌then◌else◌, refl, sym, ap, ◌∙◌}
 use Rattle.ob0_tree.specs.declared.tree.Role.TheVariants as role
 use Rattle.ob0_tree.specs.Places.{value_at}
@@ -31,7 +31,7 @@ module _ {T N : Type 0} (facts : Facts T) (shape : T → Option Shape) (label : 
   here-fits true only h = operand-fits facts shape agrees.types label (constants_only meaning) e (only-tokens facts shape agrees.types label meaning _ only (identifiers role.Declaring e) agrees.tokens) h
   here-fits false only h = operand-fits facts shape agrees.types label meaning e (tokens-fit facts shape agrees.types label meaning (identifiers role.Declaring e) agrees.tokens) h
 
-  -- a constant expression
+  -- holds if an operand has a type, and its value, when present, is the constant's value
   pub record IsConstant : Type 0 where
     pub of : Shape
     pub known : shape (reported_expression facts e).known.of ≡ Some of
@@ -51,7 +51,7 @@ module _ {T N : Type 0} (facts : Facts T) (shape : T → Option Shape) (label : 
         scalar = fe.scalar;
       }
 
--- if nothing is reported for a value, there is one
+-- holds if a value is reported and is the operand's value
 pub record HasReportedValue {T : Type 0} (o : Operand T) (reported : Option Value) : Type 0 where
   pub value : Value
   pub known : reported ≡ Some value
@@ -79,7 +79,7 @@ constants_fit-holds p shapes label meaning e agrees h =
 pub expressions_fit-holds : {N : Type 0} → ExpressionsFit N
 expressions_fit-holds p only shapes label meaning e agrees h = here-fits (facts_at p only) (shape_in shapes) label meaning e agrees only refl h
 
--- if nothing is reported for a length, there is one
+-- holds if a length is reported and is the length that the operand's value gives
 pub record IsLong {T : Type 0} (o : Operand T) (reported : Option ℕ) : Type 0 where
   pub value : Value
   pub length : ℕ

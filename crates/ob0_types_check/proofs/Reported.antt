@@ -1,5 +1,4 @@
--- The result of the reporting walk at the end of a module: its faults and, if there are none, the
--- table of its declarations.
+-- The report at the end of a module's walk has its faults and, if there are none, the table of its declarations.
 use Rattle.std.proofs.Common.{◌≡◌, ◌==◌, ℕ, Bool, true, false, List, [], ◌++◌, length, eq-eqb, eqb-true, true≢false, sym, ap, ◌∙◌, subst}
 use Rattle.std.specs.List.{filter}
 use Rattle.ob0_scan.specs.declared.fault.Fault.{Fault}
@@ -19,14 +18,14 @@ use Rattle.ob0_types_check.proofs.TableKnown.{table_declares, table_in_order}
 use Rattle.ob0_types_check.proofs.ReportedDeclarations.{module_reported}
 use Rattle.ob0_types_check.proofs.ReportedWith.{module_forgets}
 
--- a list is empty if its length is 0, and not empty otherwise
+-- A list is empty if its length is 0, and not empty otherwise.
 pub is_nothing : (xs : List Fault) (n : ℕ) (b : Bool) → n ≡ length xs → b ≡ (n == 0) → b ≡ true → xs ≡ []
 is_nothing xs n b long e h = nothing_left xs (sym long ∙ eqb-true n 0 (sym e ∙ h))
 
 pub is_something : (xs : List Fault) (n : ℕ) (b : Bool) → n ≡ length xs → b ≡ (n == 0) → b ≡ false → xs ≡ [] → ⊥
 is_something xs n b long e h none = true≢false (sym (eq-eqb n 0 (long ∙ ap length none)) ∙ (sym e ∙ h))
 
--- the result of a walk that reports the same as the walk over everything
+-- A walk over some bodies ends with the faults of the module if it reports the same as the walk over all bodies.
 pub walked : (r : Resolution) (before after : List Fault) (s : Supposed) (faulty : List ℕ) (t : Reported Walked) → before ≡ filter is_of_occurrences r.faults → module_with every r ≡ t → ReportsAfter before after (walked_in s faulty) t → HasWalked r after s faulty
 walked r before after s faulty t first is reported =
     let all = sym (module_forgets r) in

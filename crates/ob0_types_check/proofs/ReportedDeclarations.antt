@@ -1,4 +1,4 @@
--- The faults of declarations and bodies, part by part.
+-- The code reports the faults of declarations and bodies part by part, as the definitions do.
 use Rattle.std.proofs.Common.{◌≡◌, ℕ, Bool, true, false, if◌then◌else◌, List, [], ◌∷◌, ◌++◌, map, drop, refl, sym, ap, ◌∙◌}
 use Rattle.std.proofs.lemmas.List.{map-append}
 use Rattle.std.specs.List.{filter}
@@ -30,7 +30,7 @@ further_are (x ∷ xs) = ap (λ ys. x ∷ ys) (further_are xs)
 pub names_are : (ns : Names) → names_listed (names_of ns) ≡ ns.first ∷ ns.more.items
 names_are ns = ap (λ ys. ns.first ∷ ys) (further_are ns.more.items)
 
--- states that the names declared so far and the remaining ones are all names
+-- holds if declaring the remaining names gives the same state as declaring all names from the start
 pub record DefinedSoFar (m : Meaning TypeId) (start : SoFar) (xs : List ℕ) (done : ℕ) (now : SoFar) : Type 0 where
   pub left : define_all now m (drop done xs) ≡ define_all start m xs
 

@@ -1,6 +1,6 @@
--- The faults of expressions, part by part. An expression with only one factor has the report of
--- that factor (`factor_reported`), with no steps for the missing parts. A name without selectors
--- has the report of the name (`nothing_selected`).
+-- The code reports the faults of expressions part by part, as the definitions do. An expression with only one factor
+-- has the report of that factor (`factor_reported`), without steps for the missing parts. A name without selectors has
+-- the report of the name (`nothing_selected`).
 use Rattle.std.proofs.Common.{◌≡◌, ℕ, List, [], ◌∷◌, ◌++◌, length, None, Option, refl, ◌∙◌, append-nil, arith}
 use Rattle.ob0_tree.specs.declared.tree.Relation.{Relation}
 use Rattle.ob0_tree.specs.declared.tree.Selector.{Selector}
@@ -13,7 +13,7 @@ use Rattle.ob0_types_check.specs.Operations.{a_number, add_operands, complement_
 use Rattle.ob0_types_check.specs.TypeFaults.{operand_value, reported_constant}
 use Rattle.ob0_types_check.proofs.Chains.{IsChain, reported_equal, then_assoc}
 
--- adds an operand
+-- returns the report of an operand with one more term added; `reported_multiplied` is about one more factor
 abbrev pub reported_added : {T : Type 0} → Facts T → Operand T → Tree ℕ (item addend) → Reported (Operand T)
 reported_added facts x (adds o t) = reported_term facts t >>= add_operands facts o x
 
@@ -25,7 +25,7 @@ module _ {T : Type 0} (facts : Facts T) where
   unfolding reported_expression
   alone_reported a = refl
 
-  -- a factor without sign and operator
+  -- An expression that is a single factor has the report of that factor.
   pub factor_reported : (f : Tree ℕ factor) → reported_expression facts (compares (sum None (product f end) end) none) ≡ reported_factor facts f
   unfolding reported_expression
   factor_reported f =
@@ -101,7 +101,7 @@ module _ {T : Type 0} (facts : Facts T) where
   pub selected_chain : IsChain (reported_selectors facts) (reported_selector facts)
   selected_chain = record { ended = selected_ended; stepped = selected_stepped }
 
-  -- a name without selectors
+  -- A name without selectors has the report of the name.
   pub nothing_selected : (x : Operand T) (xs : List Selector) → length xs ≡ 0 → reported_selectors facts x (items_of selector_of xs) ≡ right x
   nothing_selected x [] e = selected_ended x
   nothing_selected x (s ∷ xs) e = absurd (omega arith)

@@ -1,4 +1,4 @@
--- The faults of statements, part by part.
+-- The code reports the faults of statements part by part, as the definitions do.
 use Rattle.std.proofs.Common.{◌≡◌, ◌≢◌, ℕ, List, [], ◌∷◌, ◌++◌, length, map, Some, if◌then◌else◌, ne_eqb, refl, sym, ap, ◌∙◌, append_assoc}
 use Rattle.std.proofs.lemmas.Bool.{eq-eqb}
 use Rattle.std.proofs.lemmas.List.{length-map}
@@ -72,7 +72,8 @@ module _ {T : Type 0} (facts : Facts T) where
   unfolding reported_statement
   else_reported a = refl
 
-  -- sequences and branches, from the first statement or branch
+  -- The faults of a sequence or a branch are the faults of its first statement or branch, followed by the faults of the
+  -- rest.
   flat : (ss : List Statement) → reported_sequence facts (sequence_listed ss) ≡ reported_statements facts (items_of further_statement_of ss)
   unfolding reported_statement
   flat [] = refl
@@ -114,7 +115,7 @@ module _ (facts : Facts TypeId) where
   pub argument_pairs : IsPairwise (λ (fs : List formal.Formal) (es : List Expression). reported_arguments facts (map formal_of fs) (map expression_of es)) (λ f e. reported_argument facts (formal_of f) (expression_of e))
   argument_pairs = record { ended = refl; stepped = λ f e fs es. refl }
 
-  -- as many arguments as parameters, or a wrong number
+  -- The faults of a call depend on whether there are as many arguments as parameters.
   pub count_is_right : (p : ℕ) (fs : List formal.Formal) (es : List Expression) → length fs ≡ length es
       → call_by_meaning facts p (Some (a_procedure (map formal_of fs))) (map expression_of es) ≡ reported_arguments facts (map formal_of fs) (map expression_of es)
   count_is_right p fs es e =

@@ -1,4 +1,4 @@
--- The faults of written types, part by part.
+-- The code reports the faults of written types part by part, as the definitions do.
 use Rattle.std.proofs.Common.{◌≡◌, ℕ, suc, false, true, List, [], ◌∷◌, refl}
 use Rattle.ob0_tree.specs.Tree.{Tree, array_type, end, expression, fields, further_fields, item, items, more, named_type, names, no_fields, some_fields, then_fields, written_type}
 use Rattle.ob0_tree.specs.View.{fields_of, further_fields_of_group, items_of, record_listed}
@@ -43,7 +43,7 @@ groups_stepped around g (then_fields f) ts = refl
 pub groups_chain : (around : ℕ) → IsChain (reported_groups around) (reported_group around)
 groups_chain around = record { ended = groups_ended around; stepped = groups_stepped around }
 
--- a record without groups has the same report as one with an empty group
+-- A record without groups of fields has the same report as a record with one empty group.
 pub record_reported : (around : ℕ) (p : SoFar) (gs : List Fields)
     → reported_type around p (record_listed gs) ≡ (reported_groups (suc around) (nothing_gathered p) (items_of further_fields_of_group gs) >>= record_made (record_word (items_of further_fields_of_group gs)) (ordinal_here around p))
 unfolding reported_type

@@ -1,5 +1,5 @@
--- The faults of declarations and of some bodies, part by part; with all bodies they are the faults
--- of the module.
+-- The code reports the faults of declarations and of some bodies part by part, as the definitions do. With all bodies
+-- these are the faults of the module.
 use Rattle.std.proofs.Common.{◌≡◌, ◌<◌, ◌≤◌, ℕ, ◌+◌, Bool, true, List, [], ◌∷◌, ◌++◌, length, refl, sym, ap, ◌∙◌, subst, arith, length-append}
 use Rattle.ob0_scan.specs.declared.fault.Fault.{Fault}
 use Rattle.ob0_language_names.specs.Parts.{formal_sections, module_block, section_constants, section_types, section_variables}
@@ -17,7 +17,7 @@ use Rattle.ob0_types_check.specs.SomeBodies.{Walked, block_with, body_if, every,
 use Rattle.ob0_types_check.proofs.BlocksFit.{body_known}
 use Rattle.ob0_types_check.proofs.Chains.{IsChain, reported_equal}
 
--- the same list of faulty bodies with another state
+-- returns the walk with another state and the same list of faulty bodies
 abbrev pub further : Walked → SoFar → Walked
 further w p = record { so_far = p; faulty = w.faulty }
 
@@ -75,7 +75,7 @@ module _ (wanted : Bool) (own : ℕ) (w : Walked) (a : Tree ℕ (maybe body)) (b
   count : length after ≡ length before + length of_body
   count = ap length r.reported ∙ length-append before of_body
 
-  -- a body with a fault, and a body with none
+  -- A body is appended to the list of faulty bodies exactly if it has a fault.
   pub body_faulty : (faulty : List ℕ) → length before < length after → faulty ≡ w.faulty ++ own ∷ [] → ReportsAfter before after (record { so_far = p; faulty = faulty }) (body_if wanted own w a)
   body_faulty faulty less e = body_if_with faulty (e ∙ sym (with_some of_body own w.faulty (omega (arith, less, count))))
 
@@ -84,7 +84,7 @@ module _ (wanted : Bool) (own : ℕ) (w : Walked) (a : Tree ℕ (maybe body)) (b
 
 -- ---- all bodies
 
--- leaves out the list of bodies with faults
+-- returns the report without the list of faulty bodies
 abbrev pub forget : Reported Walked → Reported SoFar
 forget t = record { known = t.known.so_far; faults = t.faults }
 

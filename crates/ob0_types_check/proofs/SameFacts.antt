@@ -1,5 +1,5 @@
--- The code's state gives the same facts as the definitions' state. So the facts about expressions
--- and statements need no state (`facts_same`), unlike those about declarations.
+-- The code's state gives the same facts as the definitions' state. So the contracts about expressions and statements
+-- don't mention the definitions' state (`facts_same`). The contracts about declarations do.
 use Rattle.std.proofs.Common.{◌≡◌, ℕ, Bool, List, [], ◌∷◌, if◌then◌else◌, string_bytes, Option, Some, None, map, option_map, option_and_then, slice_get, slice_index_or, set, refl, sym, ap, ◌∙◌}
 use Rattle.std.proofs.lemmas.List.{map-set}
 use Rattle.std.proofs.lemmas.Option.{slice_get-map}
@@ -43,7 +43,7 @@ meant_at : (ms : List (Option Meaning)) (o : Option ℕ) → option_map known_me
 meant_at ms None = refl
 meant_at ms (Some k) = sym (get_or-map (option_map known_meaning) ms k None)
 
--- the code's state gives the same facts
+-- The facts from the code's state are the facts from the definitions' state.
 pub facts_same : (s : Supposed) (only_constants : Bool) → facts_in s only_constants ≡ facts_at (so_far_in s) only_constants
 facts_same s only_constants = λ j. record {
   source = s.resolved.now.module_read.source;
@@ -52,6 +52,6 @@ facts_same s only_constants = λ j. record {
   only_constants = only_constants;
 }
 
--- the list of declarations after setting one, which may be beyond its end
+-- Setting a declaration before converting the list is the same as converting it and then setting the declaration.
 pub declared_within : (ms : List (Option Meaning)) (k : ℕ) (m : Meaning) → map (option_map known_meaning) (set ms k (Some m)) ≡ set (map (option_map known_meaning) ms) k (Some (known_meaning m))
 declared_within ms k m = map-set (option_map known_meaning) ms k (Some m)

@@ -1,6 +1,6 @@
--- If the tokens of a part are alike in two texts (`Alikeness`: the same spelling and binding), the
--- part has the same report over both, at the same tokens and with the same result. A state contains
--- its text, so the two results are one value viewed over each of the texts.
+-- The tokens of a part are alike in two texts if they have the same spelling and binding (`Alikeness`). The part then
+-- has the same report in both texts, at the same tokens and with the same result. A state contains its text. So the two
+-- results are one value viewed over each of the texts.
 use Rattle.std.proofs.Common.{◌≡◌, ℕ, Bool, true, false, not, ◌&&◌, List, [], ◌∷◌, Option, Some, None, length, nat_eq, option_and_then, pos, ◌+◌, refl, sym, ap, subst, if◌then◌else◌}
 use Rattle.std.specs.Prelude.{nat_lt}
 use Rattle.ob0_scan.specs.declared.fault.Code.{Code}
@@ -29,13 +29,13 @@ use Rattle.ob0_types_check.specs.Operations.{a_constant_name, a_name, a_number, 
 use Rattle.ob0_types_check.specs.StatementFaults.{call_by_meaning, passed, reported_argument, reported_arguments, reported_assignment, reported_call, reported_else, reported_elsifs, reported_parts, reported_required, reported_sequence, reported_statement, reported_statements, reported_target, target_by_meaning, target_meaning}
 use Rattle.ob0_types_check.specs.TypeFaults.{in_bounds, length_given, length_of, operand_value, reported_constant, type_meant, type_named, valued}
 
--- the facts at a place, from the meaning of each declaration
+-- returns the facts at a place, given the meaning of each declaration
 abbrev pub facts_over : {T : Type 0} → Scanned → List (Option ℕ) → Types T → (ℕ → Option (Meaning T)) → Bool → Facts T
 facts_over source ordinals types declared only_constants =
     record { source = source; types = types; object_for = λ token. option_and_then declared (ordinal_in ordinals token); only_constants = only_constants }
 
--- Two texts have the same number of tokens. A token with the property P has the same spelling and
--- binding in both.
+-- Holds if two texts have the same number of tokens, and each token with the property `P` has the same spelling, value
+-- and binding in both.
 pub record Alikeness (old new : Scanned) (os ns : List (Option ℕ)) (P : ℕ → Type 0) : Type 0 where
   pub count : length new.tokens ≡ length old.tokens
   pub written : (k : ℕ) → P k → text_at new k ≡ text_at old k
@@ -46,7 +46,7 @@ module _ (old new : Scanned) where
   abbrev pub Same : List Fault → List Fault → Type 0
   Same before after = AreAtSameTokens old new before after
 
-  -- states that both results come from one value, and that the faults are at the same tokens
+  -- holds if both results come from one value, and the faults are at the same tokens
   pub record Alike {Z A : Type 0} (f g : Z → A) (r s : Reported A) : Type 0 where
     pub value : Z
     pub before : r.known ≡ f value
@@ -67,7 +67,7 @@ module _ (old new : Scanned) where
       let n : Alike h k (next t.known) (other u.known) = subst (λ a. Alike h k (next a) (other u.known)) (sym p.before) (subst (λ b. Alike h k (next (f p.value)) (other b)) (sym p.after) (q p.value)) in
       record { value = n.value; before = n.before; after = n.after; faults = both_same old new p.faults n.faults }
 
-  -- a following step without any fault
+  -- Two equal reports are still equal after a following step that has no fault.
   pub gives : {A B : Type 0} {t u : Reported A} (made : A → B) → Equal t u → Equal (t >>= (λ x. right (made x))) (u >>= (λ x. right (made x)))
   gives made p = goes_on (λ x. right (made x)) (λ x. right (made x)) p (λ x. equal (made x))
 
@@ -295,7 +295,7 @@ module _ (old new : Scanned) (os ns : List (Option ℕ)) (P : ℕ → Type 0) (w
     unfolding reported_argument
     argument_same f e h = (goes_on old new (passed fo f) (passed fn f) (expression_same e h) (λ o. passed_same f o)).faults
 
-    -- the tokens of some expressions
+    -- holds if each token of some expressions has the property
     abbrev EachOf : List (Tree ℕ expression) → Type 0
     EachOf [] = Unit {0}
     EachOf (e ∷ es) = Each e × EachOf es

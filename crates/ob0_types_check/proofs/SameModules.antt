@@ -1,5 +1,5 @@
--- If the tokens of a part are alike in two texts, its faults of types are at the same tokens. The
--- parts are written types, declarations and bodies.
+-- If the tokens of a part are alike in two texts, its faults of types are at the same tokens in both. The parts are
+-- written types, declarations and bodies.
 use Rattle.std.proofs.Common.{◌≡◌, ℕ, suc, Bool, true, false, List, [], ◌∷◌, ◌++◌, Option, Some, None, length, map, slice_index_or, refl, sym, ap, ◌∙◌, subst, if◌then◌else◌}
 use Rattle.ob0_scan.specs.declared.fault.Code.TheVariants as code
 use Rattle.ob0_scan.specs.declared.fault.Fault.{Fault}
@@ -25,7 +25,7 @@ use Rattle.ob0_types_check.specs.TypeFaults.{length_of}
 use Rattle.ob0_types_check.specs.WrittenTypeFaults.{Gathered, array_made, array_size, gathered_after, nothing_gathered, ordinal_here, record_made, record_size, record_word, reported_fields, reported_groups, reported_type, with_field_names, with_name, word_before}
 use Rattle.ob0_types_check.proofs.SameFaults.{Alike, Alikeness, at_same, constant_same, expression_same, goes_on, length_same, rightly, sequence_same, type_named_same}
 
--- the state over another text
+-- returns the state, or the type and the state after it, with another text
 abbrev pub so_over : Scanned → List (Option ℕ) → SoFar → SoFar
 so_over source ordinals p = record { source = source; ordinals = ordinals; declared = p.declared; made = p.made }
 
@@ -38,7 +38,7 @@ gathered_over source ordinals g = record { fields = g.fields; size = g.size; fol
 abbrev pub heading_over : Scanned → List (Option ℕ) → KnownHeading → KnownHeading
 heading_over source ordinals h = record { formals = h.formals; following = so_over source ordinals h.following }
 
--- the meaning of the declaration with an ordinal
+-- returns the meaning of the declaration with this ordinal
 abbrev pub declared_at : SoFar → ℕ → Option (Meaning TypeId)
 declared_at p k = slice_index_or p.declared k None
 
@@ -86,7 +86,7 @@ module _ (old new : Scanned) (os ns : List (Option ℕ)) (P : ℕ → Type 0) (w
   abbrev Each : {s : Sort} → Tree ℕ s → Type 0
   Each t = EachToken P t
 
-  -- the tokens of some names
+  -- holds if each token in the list has the property
   abbrev AllOf : List ℕ → Type 0
   AllOf [] = Unit {0}
   AllOf (x ∷ xs) = P x × AllOf xs
@@ -94,7 +94,7 @@ module _ (old new : Scanned) (os ns : List (Option ℕ)) (P : ℕ → Type 0) (w
   so : (z a b : SoFar) → a ≡ so_old z → b ≡ so_new z → So (right a) (right b)
   so z a b e f = record { value = z; before = e; after = f; faults = none_same old new }
 
-  -- declarations with the same ordinals
+  -- Declaring a name in both texts sets the declaration with the same ordinal.
   define_before : (p : SoFar) (m : Meaning TypeId) (x : ℕ) → define (so_old p) m x ≡ so_old (define (so_old p) m x)
   define_before p m x = declared_over old os (so_old p) m (ordinal_in os x)
 
@@ -193,7 +193,7 @@ module _ (old new : Scanned) (os ns : List (Option ℕ)) (P : ℕ → Type 0) (w
 
   -- ---- declarations
 
-  -- one more declaration, and several
+  -- Declaring one or several names keeps the states of both texts alike.
   defined : (p : SoFar) (m : Meaning TypeId) (x : ℕ) → P x → So (right (define (so_old p) m x)) (right (define (so_new p) m x))
   defined p m x h = so (define (so_old p) m x) (define (so_old p) m x) (define (so_new p) m x) (define_before p m x) (define_after p m x h)
 
@@ -261,7 +261,7 @@ module _ (old new : Scanned) (os ns : List (Option ℕ)) (P : ℕ → Type 0) (w
   sections_same h end each = rightly old new heading_old heading_new h
   sections_same h (more s rest) each = goes_on old new (λ g. reported_sections g rest) (λ g. reported_sections g rest) (section_same h s each.0) (λ g. sections_same g rest each.1)
 
-  -- the state in a procedure
+  -- The states within a procedure, after its heading, are alike in both texts.
   pub heading_after : (x : ℕ) (h : KnownHeading) → P x → So (right (after_heading x (heading_old h))) (right (after_heading x (heading_new h)))
   heading_after x h each = defined h.following (a_procedure h.formals) x each
 
@@ -293,7 +293,7 @@ module _ (old new : Scanned) (os ns : List (Option ℕ)) (P : ℕ → Type 0) (w
 
   -- ---- blocks and procedures
 
-  -- a block whose procedures are alike
+  -- If a block has the same report in both texts from alike states, it also has after a heading.
   block_after : (b : Tree ℕ block) → ((q : SoFar) → So (reported_block (so_old q) b) (reported_block (so_new q) b)) → (h : KnownHeading) (x : ℕ) → P x → So (reported_block (after_heading x (heading_old h)) b) (reported_block (after_heading x (heading_new h)) b)
   block_after b each h x at =
       let a = heading_after x h at in
@@ -330,8 +330,8 @@ module _ (old new : Scanned) (os ns : List (Option ℕ)) (P : ℕ → Type 0) (w
 same_count : (old new : Scanned) → AreWrittenAlike old new → length new.tokens ≡ length old.tokens
 same_count old new w = sym (length-map new.tokens (read_in new.text)) ∙ (ap length w.same_words ∙ length-map old.tokens (read_in old.text))
 
--- if all tokens have the same spellings, the undeclared names and the faults of types are at the
--- same tokens
+-- If all tokens of two texts have the same spellings, the undeclared names and the faults of types are at the same
+-- tokens.
 pub module_same : (old new : Scanned) (w : AreWrittenAlike old new) (tree : ModuleTree) (ordinals : List (Option ℕ)) (declarations uses : List ℕ) (before after : List Fault) → AreAtSameTokens old new before after
     → AreAtSameTokens old new (reported_module (record { module_read = parsed_by old tree; ordinals = ordinals; declarations = declarations; uses = uses; faults = before }))
     (reported_module (record { module_read = parsed_by new tree; ordinals = ordinals; declarations = declarations; uses = uses; faults = after }))

@@ -1,4 +1,4 @@
--- A body without any fault still has none after the tokens of the module changed in other bodies.
+-- A body that has no faults still has none after the tokens of the module changed in other bodies.
 use Rattle.std.proofs.Common.{◌≡◌, ℕ, Bool, true, false, List, [], ◌∷◌, ◌++◌, map, Option, None, length, refl, sym, ap, ◌∙◌, subst, arith, true≢false}
 use Rattle.std.proofs.lemmas.List.{length-map, nil_from_length}
 use Rattle.ob0_scan.specs.Scanned.{Scanned}
@@ -36,7 +36,7 @@ module _ (test : ℕ → Bool) where
   all_and [] y h q = (q, tt)
   all_and (x ∷ xs) y h q = (h.0, all_and xs y h.1 q)
 
-  -- the list only grows
+  -- If all bodies in the list are wanted after one was added, they were wanted before.
   faulty_before : (faults : List Fault) (own : ℕ) (xs : List ℕ) → AllPass test (with_faulty faults own xs) → AllPass test xs
   faulty_before [] own xs h = h
   faulty_before (fault ∷ faults) own xs h = all_before xs (own ∷ []) h
@@ -61,7 +61,7 @@ module _ (test : ℕ → Bool) where
         let g = (reported_sections (record { formals = []; following = w.so_far }) (formal_sections fs)).known in
         before_block closing (further w (after_heading x g)) b h
 
--- bodies with faults among the wanted ones are wanted
+-- If only wanted bodies are walked, all bodies found faulty are wanted.
 module _ (wanted : ℕ → Bool) where
   abbrev Wants : List ℕ → Type 0
   Wants bodies = AllPass wanted bodies
@@ -98,7 +98,7 @@ module _ (wanted : ℕ → Bool) where
 
 -- ---- two texts
 
--- states that both results come from one value, and that the second report equals the third
+-- holds if both results come from one value, and the second report equals the third
 pub record One {Z A : Type 0} (f g : Z → A) (r s d : Reported A) : Type 0 where
   pub value : Z
   pub before : r.known ≡ f value
@@ -108,7 +108,7 @@ pub record One {Z A : Type 0} (f g : Z → A) (r s d : Reported A) : Type 0 wher
 of_alike : {Z A : Type 0} {old new : Scanned} {f g : Z → A} {r s : Reported A} → Alike old new f g r s → One f g r s s
 of_alike p = record { value = p.value; before = p.before; after = p.after; same = refl }
 
--- joins two steps if the final state in the old text has a property that holds for each earlier one
+-- Joins two steps. The final state in the old text has a property that then holds for each earlier state.
 one_then : {Z A Y B : Type 0} {f g : Z → A} {h k : Y → B} {t u v : Reported A} (J : A → Type 0) (K : B → Type 0) (next other another : A → Reported B) → ((x : A) → K (next x).known → J x) → (J t.known → One f g t u v)
     → ((z : Z) → K (next (f z)).known → One h k (next (f z)) (other (g z)) (another (g z)))
     → K (t >>= next).known → One h k (t >>= next) (u >>= other) (v >>= another)
@@ -124,14 +124,14 @@ one_then {Z} {A} {Y} {B} {f} {g} {h} {k} {t} {u} {v} J K next other another down
       same = reported_equal (ap (λ (x : Reported B). x.known) last) (λ i. (a.same i).faults ++ (last i).faults);
     }
 
--- if there are no faults, there are none at the same tokens
+-- If a list of faults is empty, the list of faults at the same tokens of another text is also empty.
 none_same_tokens : (old new : Scanned) (before after : List Fault) → AreAtSameTokens old new before after → before ≡ [] → after ≡ []
 none_same_tokens old new before after h none =
     let count : length before ≡ length h.tokens = ap length h.in_old ∙ length-map h.tokens (fault_at old) in
     let nothing : length before ≡ 0 = ap length none in
     h.in_new ∙ ap (map (fault_at new)) (nil_from_length h.tokens (omega (arith, count, nothing)))
 
--- the state in both texts, and the bodies with faults in each of them
+-- the state that both texts share, and the lists of bodies with faults in each of them
 record Both : Type 0 where
   so : SoFar
   in_old : List ℕ
@@ -156,7 +156,7 @@ module _ (old new : Scanned) (os ns : List (Option ℕ)) (P : ℕ → Type 0) (w
   abbrev With : Reported Walked → Reported Walked → Reported Walked → Type 0
   With r s d = One walked_before walked_now r s d
 
-  -- states that all bodies with faults in the old text are wanted
+  -- holds if all bodies with faults in the old text are wanted
   abbrev Were : Walked → Type 0
   Were v = Wants wanted v.faulty
 
@@ -191,7 +191,7 @@ module _ (old new : Scanned) (os ns : List (Option ℕ)) (P : ℕ → Type 0) (w
             same = λ i. record { known = record { so_far = so_now z.so; faulty = with_faulty (none i) own z.in_new }; faults = none i };
           }
 
-  -- a block after a heading
+  -- The report of a block after a heading is the same in both texts if the report of the block is.
   inside : (closing : ℕ) (z : Both) (b : Tree ℕ block) (x : ℕ) (g : KnownHeading) → P x
       → ((y : Both) → Were (block_with every closing (walked_before y) b).known → With (block_with every closing (walked_before y) b) (block_with every closing (walked_now y) b) (block_with wanted closing (walked_now y) b))
       → Were (block_with every closing (further (walked_before z) (after_heading x (heading_old old new os ns P w g))) b).known
@@ -249,7 +249,7 @@ module _ (old new : Scanned) (os ns : List (Option ℕ)) (P : ℕ → Type 0) (w
 abbrev closing_of : Tree ℕ module_text → ℕ
 closing_of (is_module x b closing) = closing
 
--- the final states in both texts come from one value
+-- holds if the final states in both texts come from one value
 pub record IsKnownAlike (old new : Resolution) : Type 0 where
   pub value : SoFar
   pub before : (module_with every old).known.so_far ≡ so_over old.module_read.source old.ordinals value
@@ -293,7 +293,7 @@ module _ (wanted : ℕ → Bool) (r : Resolution) (is : IsResolution r) (w : Wer
 pub some_bodies_reported : SomeBodiesReported
 some_bodies_reported wanted r is w = as_read wanted r is w wanted ∙ (sym (one wanted r is w).same ∙ sym (as_read wanted r is w every))
 
--- the bodies with faults are found by walking only the wanted ones
+-- All faulty bodies of the new text are among the wanted bodies.
 pub faulty_stay : (wanted : ℕ → Bool) (r : Resolution) → IsResolution r → WereFaulty wanted r → AllPass wanted (faulty_bodies r)
 faulty_stay wanted r is w =
     subst (λ (t : Reported Walked). Wants wanted t.known.faulty) (some_bodies_reported wanted r is w)

@@ -1,7 +1,6 @@
--- For a valid module, the table that the reporting walk makes has each of its declarations. Each
--- entry is made from earlier ones, so the law's shapes are the shapes of the table. The ordinals of
--- shapes are right because, between two places, the table grows by the number of constructors
--- between them.
+-- For a valid module, the table that the reporting walk makes has the object of each declaration. Each entry of the
+-- table is made from earlier ones, so the shapes in the law are the shapes of the table. The ordinals in shapes are
+-- right, because between two places the table grows by the number of words ARRAY and RECORD between them.
 use Rattle.std.proofs.Common.{◌≡◌, ℕ, zero, suc, ◌<◌, ◌≤◌, false, All, List, [], ◌∷◌, ◌++◌, length, map, set, slice_get, slice_index_or, Option, Some, None, option_map, option_and_then, refl, sym, ap, ◌∙◌, subst, arith, append_assoc, append-nil, get_or-set_other, get_or-set_same}
 use Rattle.std.proofs.Math.ListN.{get_or-map}
 use Rattle.std.proofs.lemmas.List.{length-map, length-set}
@@ -32,7 +31,7 @@ use Rattle.ob0_types_check.specs.declared.reporting.supposed.Meaning.TheVariants
 use Rattle.ob0_types_check.specs.declared.reporting.supposed.Supposed.{Supposed}
 use Rattle.ob0_types_check.proofs.Unreported.{some-same}
 
--- a type that has a shape
+-- A type that has a shape in the law has the same shape in the table.
 array_only : (x u : Shape) → as_array x ≡ Some u → only_array x ≡ u
 array_only integer_shape u e = absurd (cc)
 array_only boolean_shape u e = absurd (cc)
@@ -77,7 +76,7 @@ fields_there known (f ∷ fs) (next_field_shape x s gs) h =
     let rest = fields_there known fs gs h.2 in
     ((λ i. next_field_shape (h.0 i) (type_there known f.of s h.1 i) (rest.0 i)), All-cons (λ f. IsTypeMade (length known) f.of) f fs (made_there known f.of s h.1) rest.1)
 
--- an entry of the table
+-- An entry of the table has the shape with which it agrees.
 entry_there : (known : List Shape) (m : TypeEntry) (s : Shape) → MadeAgrees (shape_in known) (made_type_of m) s → (made_shape known m ≡ s) × IsEntry known m
 entry_there known (made.Array a) s h =
     let (u, e, there) = h.parts in
@@ -100,7 +99,7 @@ entries_there known (m ∷ ms) (s ∷ ss) h =
       ap (λ z. shapes_from (known ++ z ∷ []) ms) one.0 ∙ (rest.1 ∙ append_assoc known (s ∷ []) ss),
     )
 
--- the object of a declaration
+-- The object of a declaration in the table is the module's object if its meaning agrees with that object.
 formals_there : (shapes : List Shape) (fs : List formal.Formal) (signature : Signature) → FormalsAgree (shape_in shapes) (map formal_of fs) signature → map (formal_in shapes) fs ≡ signature
 formals_there shapes [] [] h = refl
 formals_there shapes [] (g ∷ gs) h = absurd h
@@ -133,7 +132,7 @@ module _ (s : Supposed) (m : Tree Name module_text) (h : KnowsDeclarations (so_f
   abbrev objects : List (Option object.Object)
   objects = map (option_map table_object) s.meanings.items
 
-  -- the standard procedures, one after another
+  -- Setting the three standard procedures one after another gives their objects at their ordinals.
   abbrev first_set : List (Option object.Object)
   first_set = set objects 4 (Some (kind.Standard standards.Read))
 
@@ -146,7 +145,7 @@ module _ (s : Supposed) (m : Tree Name module_text) (h : KnowsDeclarations (so_f
   shapes_are : shapes_of (table_in s) ≡ h.shapes
   shapes_are = (entries_there [] s.composites.items h.shapes h.table).1
 
-  -- an ordinal that isn't a standard procedure's
+  -- An ordinal that isn't a standard procedure's keeps its object.
   plain_there : (k : ℕ) → is_standard (declared_object m k) ≡ false → option_and_then (object_in h.shapes) (slice_index_or objects k None) ≡ declared_object m k
   plain_there k own =
       ap (option_and_then (object_in h.shapes)) (get_or-map (option_map table_object) s.meanings.items k None)

@@ -1,6 +1,6 @@
--- If the arrays and records of the table agree with their shapes, so do all types. `TypesAgree`
--- requires only one direction: a type that has a shape has its form. The form of a type without a
--- shape may be anything, so a table with odd entries does no harm.
+-- If the arrays and records of a table agree with their shapes, so do all types. `TypesAgree` requires only that a type
+-- with a shape has the form of that shape. The form of a type without a shape may be anything, so entries of the table
+-- that don't agree do no harm.
 use Rattle.std.proofs.Common.{◌≡◌, ℕ, zero, suc, true, false, List, [], ◌∷◌, ◌++◌, slice_get, if◌then◌else◌, Option, Some, option_map, option_and_then, append_assoc, refl, sym, ap, ◌∙◌, subst, eqb-true}
 use Rattle.std.proofs.lemmas.Option.{option_and_then_some}
 use Rattle.ob0_types_table.specs.declared.types.TypeId.{TypeId}
@@ -15,7 +15,7 @@ use Rattle.ob0_types_check.specs.Agreement.{EachMade, FieldsAgree, FormAgrees, M
 use Rattle.ob0_types_check.specs.ReportLaws.{TypesOfTables}
 use Rattle.ob0_types_check.proofs.Unreported.{some-none, some-same}
 
--- the entry of a shape
+-- holds if the table has an entry at this index that agrees with the shape
 pub record Found (shape : TypeId → Option Shape) (made : List MadeType) (i : ℕ) (s : Shape) : Type 0 where
   pub entry : MadeType
   pub there : slice_get made i ≡ Some entry
@@ -37,7 +37,7 @@ array-formed : (shape : TypeId → Option Shape) (k : ℕ) (p : PartTypes) (r s 
 array-formed shape k (of_elements n t) r s (u, e, known) h = (k, n, u, some-same s (array_shape k n u) (sym h ∙ ap as_array e), known)
 array-formed shape k (of_fields fields) r s (fs, e, each) h = absurd (some-none s (sym h ∙ ap as_array e))
 
--- a field by its name
+-- If fields agree with a record's shape, looking up a field by name gives the type of the shape's field.
 field-there : (shape : TypeId → Option Shape) (fields : List FieldSoFar) (fs : FieldShapes) → FieldsAgree shape fields fs → (x : Name) → option_map shape (first_field fields x) ≡ option_map Some (shape_of_field fs x)
 field-there shape [] no_field_shape h x = refl
 field-there shape [] (next_field_shape y s fs) h x = absurd h

@@ -1,4 +1,4 @@
--- No fault is reported for expressions that have a type, for constants, or for lengths.
+-- No fault is reported for an expression that has a type, a constant that has a value, or a valid length.
 use Rattle.std.proofs.Common.{◌≡◌, ℕ, Bool, true, false, zero, suc, pos, negsuc, [], Option, Some, None, option_and_then, if◌then◌else◌, is_some, refl, sym, ap, ◌∙◌}
 use Rattle.ob0_tree.specs.declared.tree.Role.TheVariants as role
 use Rattle.ob0_tree.specs.Places.{value_at}
@@ -40,7 +40,7 @@ module _ {T N : Type 0} (facts : Facts T) (shape : T → Option Shape) (apart : 
       expression-right facts shape agrees.types apart label (constants_only {Q = Q} meaning) e
       (only-tokens facts shape agrees.types label meaning Q only (identifiers role.Declaring e) agrees.tokens, constants-typed facts shape label meaning Q (identifiers role.Declaring e) agrees.tokens) s h
 
-  -- a constant that has a value
+  -- holds if no fault is reported for a constant expression, and its operand has this value and its type
   pub record HasValue (v : Value) : Type 0 where
     pub none : (reported_expression facts e).faults ≡ []
     pub of : Shape

@@ -1,4 +1,4 @@
--- No fault is reported for declarations that bind their names.
+-- No fault is reported for declarations that give an environment.
 use Rattle.std.proofs.Common.{length, arith, ◌≡◌, ℕ, suc, ◌+◌, true, false, List, [], ◌∷◌, ◌++◌, map, Option, Some, option_and_then, is_some, refl, sym, ap, ◌∙◌, le_refl}
 use Rattle.ob0_tree.specs.Places.{named, text_at, value_at}
 use Rattle.ob0_tree.specs.Tree.{Tree, begins, body, constant, declares_constant, declares_type, declares_variable, end, further_section, items, mapped, maybe, more, none, one, then_section, type_name, value_section, variable, variable_section}
@@ -85,7 +85,7 @@ module _ (w : Numbering) (fit : PartsFit) (fine : PartsRight) where
       none-of-both (u.faults ++ []) (reported_variables q gs).faults (none-of-both u.faults [] unreported refl)
       (variables_right gs (k + constructors (named w.source t)) (after_names n xs) q s.after (scope_following w n xs scope) (bind_names (map (text_at w.source) xs) (meant.a_variable s.shape) env) (omega (arith, at, s.apart.counted)) all.holds placed.2 after last)
 
-  -- parameters of one type, and the others
+  -- No fault is reported for sections of parameters that have types.
   abbrev after_section : Mode → List Name → TypeEnvironment Name → ℕ → Tree Name (items further_section) → Shape → Option (List (TypedParameter Name))
   after_section mode ys env k fs s = option_and_then (λ rest. Some (map (typed_as mode s) ys ++ rest)) (typed_parameters as_names (bind_names ys (meant.a_variable s) env) k fs)
 

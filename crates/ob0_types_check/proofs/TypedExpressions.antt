@@ -1,6 +1,6 @@
--- No fault is reported for expressions that have a type. The proof follows the definition of types.
--- It takes the facts about a part without any fault from the laws of parts that fit. `known-as`
--- joins the two, so no fact has to be proved twice.
+-- No fault is reported for expressions that have a type. The proof follows the definition of types. The facts about a
+-- part for which no fault is reported come from the laws about parts that fit. `known-as` joins both, so that no fact
+-- is proved twice.
 use Rattle.std.proofs.Common.{◌≡◌, ℕ, List, [], ◌∷◌, ◌++◌, Option, Some, option_and_then, refl, sym, ap, ◌∙◌}
 use Rattle.ob0_tree.specs.declared.tree.Role.{Role}
 use Rattle.ob0_tree.specs.declared.tree.Role.TheVariants as role
@@ -17,11 +17,11 @@ use Rattle.ob0_types_check.proofs.FittingExpressions.{Fits, FitsExpression, Fits
 use Rattle.ob0_types_check.proofs.Operands.{added-fits, element-fits, field-fits, multiplied-fits, apply_sign-fits}
 use Rattle.ob0_types_check.proofs.TypedOperands.{TypesApart, added-right, and-then, complemented-right, element-right, field-right, multiplied-right, none-of-both, related-right, apply_sign-right}
 
--- the type of an operand is its known type
+-- The type of an operand that fits is the expression's type.
 known-as : {T : Type 0} {shape : T → Option Shape} {o : Operand T} {type : Option Shape} {value : Option Value} (s : Shape) → Fits shape o type value → type ≡ Some s → shape o.of ≡ Some s
 known-as s f e = f.known ∙ (sym f.typed ∙ e)
 
--- states that a name that has a type has no fault
+-- holds if no fault is reported for a name that has a type
 abbrev pub NameTyped : {T N P : Type 0} → Facts T → (ℕ → N) → Meanings N Shape P → Role → ℕ → Type 0
 NameTyped facts label meaning role.LookedUp x = (s : Shape) → object_type (meaning.object_for (label x)) ≡ Some s → (name_operand facts x).faults ≡ []
 NameTyped facts label meaning role.FieldName x = Unit {0}
@@ -45,8 +45,7 @@ module _ {T N P : Type 0} (facts : Facts T) (shape : T → Option Shape) (types 
   abbrev ids : {s : Sort} → Tree ℕ s → List (Role × ℕ)
   ids t = identifiers role.Declaring t
 
-  -- states that all names of a part agree with their meanings, and that a name with a type has no
-  -- fault
+  -- holds if all names of a part agree with their meanings, and no fault is reported for a name that has a type
   abbrev pub AllTyped : {s : Sort} → Tree ℕ s → Type 0
   AllTyped t = TokensFit facts shape label meaning (identifiers role.Declaring t) × NamesTyped facts label meaning (identifiers role.Declaring t)
 

@@ -28,7 +28,7 @@ use Rattle.ob0_types_check.proofs.TypedOperands.{and-then, none-of-both}
 use Rattle.ob0_types_check.proofs.TypedTypes.{PartsRight, given-again, parts_right}
 use Rattle.ob0_types_check.proofs.Unreported.{some-same}
 
--- a test of an existing value
+-- If a test holds for a value that is present, it holds for the value itself.
 held-again : {A : Type 0} (o : Option A) (test : A → Bool) (a : A) → o ≡ Some a → some_and o test ≡ true → test a ≡ true
 held-again o test a e h = sym (ap (λ o. some_and o test) e) ∙ h
 

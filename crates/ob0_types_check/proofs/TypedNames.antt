@@ -1,4 +1,4 @@
--- Names that have a type; and the types of a table, which are distinguished by their shapes.
+-- No fault is reported for names that have a type. The types of a table are distinguished by their shapes.
 use Rattle.std.proofs.Common.{◌≡◌, ℕ, Bool, true, false, true≢false, List, [], ◌∷◌, slice_get, Option, Some, None, option_map, option_and_then, if◌then◌else◌, refl, sym, ap, ◌∙◌}
 use Rattle.ob0_scan.specs.declared.fault.Code.TheVariants as code
 use Rattle.ob0_tree.specs.declared.tree.Role.{Role}
@@ -18,7 +18,7 @@ use Rattle.ob0_types_check.proofs.TypedExpressions.{NameTyped, NamesTyped}
 use Rattle.ob0_types_check.proofs.TypedOperands.{TypesApart, and-then}
 use Rattle.ob0_types_check.proofs.Unreported.{some-none, some-same}
 
--- the types of a table
+-- The types of a table are distinguished by their shapes (`TypesApart`).
 
 no-array-of : (shapes : List Shape) (i : ℕ) (s : Shape) → option_and_then as_array (slice_get shapes i) ≡ Some s → as_array s ≡ Some s
 no-array-of shapes i s h = let (r, at, is) = and-then as_array (slice_get shapes i) s h in of-array r s is
@@ -62,7 +62,7 @@ scalar-alone made shapes (type.Record i) s h e = absurd (cc)
 pub types-apart : (made : List MadeType) (shapes : List Shape) → TypesApart (types_at made) (shape_in shapes)
 types-apart made shapes = record { integer = integer-alone made shapes; boolean = boolean-alone made shapes; scalar = scalar-alone made shapes }
 
--- names
+-- No fault is reported for a name that has a type.
 
 module _ {T : Type 0} (facts : Facts T) (shape : T → Option Shape) where
   no-procedure : (o : Option (Object Shape Signature)) (signature : Signature) (s : Shape) → signature_of o ≡ Some signature → object_type o ≡ Some s → ⊥
@@ -84,7 +84,7 @@ module _ {T : Type 0} (facts : Facts T) (shape : T → Option Shape) where
   holds-right x (Some (a_constant c)) o only a s h = refl
   holds-right x (Some (a_variable t)) o only a s h = variable-named x t facts.only_constants only
 
-  -- the same in constant expressions, in which names may only refer to constants
+  -- In a constant expression, no fault is reported for a name that means a constant and has a type.
 
   abbrev only : Option (Object Shape Signature) → Option (Object Shape (Unit {0}))
   only o = option_map meant.a_constant (constant_of o)

@@ -1,6 +1,6 @@
--- No fault is reported for operations on operands of the right types. `TypesApart` is what the
--- proofs need of types: INTEGER and BOOLEAN differ from all others, and a type with the form of a
--- scalar is one of them. A result of two steps is a result of each of them (`and-then`).
+-- No fault is reported for operations on operands of the right types. The proofs need two facts about types
+-- (`TypesApart`). INTEGER and BOOLEAN differ from all others, and a type with the form of a scalar is one of them. If
+-- two steps give a result, each of them does (`and-then`).
 use Rattle.std.proofs.Common.{◌≡◌, ℕ, true, ◌||◌, List, [], ◌++◌, if◌then◌else◌, Option, Some, None, option_map, option_and_then, refl, sym, ap, ◌∙◌}
 use Rattle.ob0_scan.specs.declared.fault.Code.TheVariants as code
 use Rattle.ob0_scan.specs.declared.fault.Fault.{Fault}
@@ -20,16 +20,16 @@ use Rattle.ob0_types_check.specs.Operations.{add_operands, required, required_bo
 use Rattle.ob0_types_check.specs.Agreement.{FormAgrees, TypesAgree, as_array, as_record}
 use Rattle.ob0_types_check.proofs.Unreported.{not-true, some-none}
 
--- if neither list has a fault, the joined list has none
+-- If two lists of faults are empty, the joined list is.
 pub none-of-both : (xs ys : List Fault) → xs ≡ [] → ys ≡ [] → xs ++ ys ≡ []
 none-of-both xs ys p q = λ i. p i ++ q i
 
--- a result of two steps is a result of each of them
+-- If two steps give a result, each of them gives one.
 pub and-then : {A B : Type 0} (next : A → Option B) (o : Option A) (r : B) → option_and_then next o ≡ Some r → (a : A) × (o ≡ Some a) × (next a ≡ Some r)
 and-then next None r h = absurd (cc)
 and-then next (Some a) r h = (a, refl, h)
 
--- states that types are distinguished by their shapes: INTEGER, BOOLEAN, and types with parts
+-- holds if types are distinguished by their shapes: INTEGER, BOOLEAN, and types with parts
 pub record TypesApart {T : Type 0} (types : Types T) (shape : T → Option Shape) : Type 0 where
   pub integer : (t : T) → shape t ≡ Some integer_shape → types.same t types.integer ≡ true
   pub boolean : (t : T) → shape t ≡ Some boolean_shape → types.same t types.boolean ≡ true
@@ -48,7 +48,7 @@ module _ {T : Type 0} (facts : Facts T) (shape : T → Option Shape) (types : Ty
       let wrong : Reported T = record { known = facts.types.unknown; faults = at_operand facts code.TypeMismatch a } in
       ap (λ c. (if c then left else wrong).faults) (same-fits a.of wanted p) ∙ required-right wanted b q
 
-  -- states that both operands have the required type
+  -- holds if both operands have the required type
   abbrev AreRequired : T → T → T → Type 0
   AreRequired wanted a b = (facts.types.same a wanted ≡ true) × (facts.types.same b wanted ≡ true)
 
@@ -65,7 +65,7 @@ module _ {T : Type 0} (facts : Facts T) (shape : T → Option Shape) (types : Ty
   multiply-required multiply_operator.And boolean_shape boolean_shape w e a b p q = (apart.boolean a p, apart.boolean b q)
   multiply-required _ _ _ w e a b p q = absurd (cc)
 
-  -- the type that a comparison requires, from the type of its left side
+  -- The type that a comparison requires follows from the type of its left side.
   integers-equal : (a : T) → facts.types.same a facts.types.integer ≡ true → required_by_equality facts.types a ≡ facts.types.integer
   integers-equal a e = ap (λ b. if b then facts.types.integer else (if facts.types.same a facts.types.unknown then facts.types.unknown else facts.types.boolean)) e
 
@@ -137,7 +137,7 @@ module _ {T : Type 0} (facts : Facts T) (shape : T → Option Shape) (types : Ty
   complemented-right o s w e h =
       none-of-both (required facts facts.types.boolean o).faults [] (required-right facts.types.boolean o (apart.boolean o.of (h ∙ ap Some (complement-required s w e)))) refl
 
-  -- selectors
+  -- No fault is reported for a selection that has a type.
 
   found-right : (x : ℕ) (m : Option T) (o : Option Shape) (u : Shape) → option_map shape m ≡ option_map Some o → o ≡ Some u → (found_field facts x m).faults ≡ []
   found-right x None None u e h = absurd (cc)

@@ -43,7 +43,7 @@ module _ {T N : Type 0} (facts : Facts T) (shape : T → Option Shape) (types : 
   apart-in : (xs ys : List (Role × ℕ)) → TokensAgree facts shape label meaning (xs ++ ys) → TokensAgree facts shape label meaning xs × TokensAgree facts shape label meaning ys
   apart-in = split facts shape types label meaning
 
-  -- an expression that has the required type
+  -- No fault is reported for an expression that has the required type.
   required-typed : (wanted : T) (w : Shape) (e : Tree ℕ expression) → shape wanted ≡ Some w → Named e → type_of meaning (here e) ≡ Some w → reported_required facts wanted e ≡ []
   unfolding reported_required
   required-typed wanted w e hw k h =
@@ -64,7 +64,7 @@ module _ {T N : Type 0} (facts : Facts T) (shape : T → Option Shape) (types : 
       let t = target-typed facts shape types apart only label meaning x path s (k.0, rest.0) left in
       none-of-both (reported_target facts x path).faults (reported_required facts (reported_target facts x path).known.of e) t.none (required-typed (reported_target facts x path).known.of s e t.known rest.1 right)
 
-  -- calls
+  -- No fault is reported for a well-typed call.
 
   variable-place : (x : ℕ) (t : T) (b : Bool) → (if b then record { known = a_name facts.types.unknown x; faults = at_token facts code.NotConstant x } else right (a_name t x)).known.is_place ≡ true
   variable-place x t true = refl
@@ -77,7 +77,7 @@ module _ {T N : Type 0} (facts : Facts T) (shape : T → Option Shape) (types : 
   named-place x (Some (a_procedure fs)) o v (signature, holds, formals) e = no-signature facts shape types apart only label meaning o v signature e holds
   named-place x (Some (a_variable t)) o v a e = variable-place x t facts.only_constants
 
-  -- a variable with its selectors has their type, and its operand is a place
+  -- holds if an expression has this type and its operand is a place
   pub record IsPlace (e : Tree ℕ expression) (s : Shape) : Type 0 where
     pub typed : type_of meaning (here e) ≡ Some s
     pub placed : (reported_expression facts e).known.is_place ≡ true
@@ -209,7 +209,7 @@ module _ {T N : Type 0} (facts : Facts T) (shape : T → Option Shape) (types : 
     else-right none k h = refl
     else-right (one (else_branch statements)) k h = sequence-right statements k h
 
--- a type is at only one place of a table
+-- If two arrays or records of a table have the same shape, they are at the same index.
 
 array-equal : (r s : Shape) → as_array r ≡ Some s → r ≡ s
 array-equal (array_shape k n u) s e = some-same (array_shape k n u) s e

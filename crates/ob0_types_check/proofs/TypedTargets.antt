@@ -1,5 +1,5 @@
--- No fault is reported for well-typed expressions, with all their names, and for well-typed targets
--- of assignments.
+-- No fault is reported for well-typed expressions, including all their names, and for well-typed targets of
+-- assignments.
 use Rattle.std.proofs.Common.{◌≡◌, ℕ, false, List, [], Option, Some, None, refl, sym, ap, ◌∙◌}
 use Rattle.ob0_tree.specs.declared.tree.Role.{Role}
 use Rattle.ob0_tree.specs.declared.tree.Role.TheVariants as role
@@ -27,7 +27,7 @@ use Rattle.ob0_types_check.proofs.TypedNames.{names-typed, types-apart}
 use Rattle.ob0_types_check.proofs.TypedOperands.{TypesApart, none-of-both}
 use Rattle.ob0_types_check.proofs.Unreported.{some-none}
 
--- a variable, from the type after its selectors
+-- If selecting from a name's type gives a type, the name is a variable's.
 pub variable-of : {P : Type 0} (o : Option (Object Shape P)) (f : Shape → Option Shape) (s : Shape) → (elim o [ Some (meant.a_variable v) ↦ f v | _ ↦ None ]) ≡ Some s → (v : Shape) × (o ≡ Some (meant.a_variable v)) × (f v ≡ Some s)
 variable-of None f s h = absurd (some-none s (sym h))
 variable-of (Some (meant.a_type t)) f s h = absurd (some-none s (sym h))
@@ -57,7 +57,7 @@ module _ {T N : Type 0} (facts : Facts T) (shape : T → Option Shape) (types : 
       let o : OperandFits shape meaning (reported_expression facts e).known (here e) = known-operand facts shape types label meaning e k (expression-typed e k s h) in
       o.known ∙ (sym o.typed ∙ h)
 
-  -- targets of assignments
+  -- No fault is reported for the target of a well-typed assignment.
 
   pub no-signature : {A : Type 0} (o : Option (Object Shape Signature)) (v : Shape) (signature : Signature) → o ≡ Some (meant.a_variable v) → signature_of o ≡ Some signature → A
   no-signature o v signature e h = absurd (some-none signature (sym h ∙ ap signature_of e))

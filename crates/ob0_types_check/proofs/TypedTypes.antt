@@ -1,5 +1,5 @@
--- No fault is reported for written types that denote a type. `given-again` moves a hypothesis about
--- the result of two steps to the value from another law, without an equality of values.
+-- No fault is reported for written types that denote a type. `given-again` moves a hypothesis about the result of two
+-- steps to the value that another law gives, without an equality of values.
 use Rattle.std.proofs.Common.{◌≡◌, ℕ, suc, ◌+◌, Bool, true, false, ◌&&◌, List, [], map, Option, Some, None, option_and_then, if◌then◌else◌, is_some, nat_le, refl, sym, ap, ◌∙◌, le_refl, length, arith}
 use Rattle.ob0_tree.specs.Places.{named, text_at, value_at}
 use Rattle.ob0_tree.specs.Tree.{Tree, array_type, end, fields, further_fields, items, mapped, more, named_type, no_fields, occurrences, record_type, some_fields, then_fields, written_type}
@@ -31,8 +31,8 @@ use Rattle.ob0_types_check.proofs.TypedOperands.{and-then, none-of-both}
 use Rattle.ob0_types_check.proofs.TypedStatements.{no_fault_in_statements-holds}
 use Rattle.ob0_types_check.proofs.Unreported.{some-none}
 
--- the facts about expressions and statements that declarations use: if they are well-typed, they
--- have no fault
+-- The laws about expressions and statements that the proofs about declarations use: no fault is reported for them if
+-- they are well-typed.
 pub record PartsRight : Type 0 where
   pub constants : NoFaultInConstants Name
   pub lengths : NoFaultInLengths Name
@@ -41,14 +41,14 @@ pub record PartsRight : Type 0 where
 pub parts_right : PartsRight
 parts_right = record { constants = no_fault_in_constants-holds; lengths = no_fault_in_lengths-holds; statements = no_fault_in_statements-holds }
 
--- the result of two steps is the result of the second, from the first one's known result
+-- The result of two steps is the result of the second step, applied to the first step's value.
 pub given-again : {A B : Type 0} (next : A → Option B) (o : Option A) (a : A) (r : Option B) → o ≡ Some a → option_and_then next o ≡ r → next a ≡ r
 given-again next o a r e h = sym (ap (option_and_then next) e) ∙ h
 
 pub some-there : {A : Type 0} (o : Option A) (a : A) → o ≡ Some a → is_some o ≡ true
 some-there o a e = ap is_some e
 
--- a type within its limits isn't too large
+-- A type within the limits isn't reported as too large.
 within : (b : Bool) (s t : Shape) → (if b then Some s else None) ≡ Some t → b ≡ true
 within true s t h = refl
 within false s t h = absurd (some-none t (sym h))
@@ -68,7 +68,7 @@ no-type (Some (meant.a_variable t)) signature s e h = absurd (some-none s (sym h
 no-type (Some (meant.a_procedure p)) signature s e h = absurd (some-none s (sym h))
 no-type (Some (meant.a_standard p)) signature s e h = absurd (some-none s (sym h))
 
--- a name of a type
+-- No fault is reported for a name that denotes a type.
 meant-right : (p : SoFar) (before : List Shape) (x : ℕ) (m : Option (Meaning TypeId)) (o : Option (meant.Object Shape Signature)) → MeansAlike (shape_in before) m o → (s : Shape) → type_of_name o ≡ Some s → (type_meant (facts_at p false) x m).faults ≡ []
 meant-right p before x None o a s h = refl
 meant-right p before x (Some (a_type t)) o a s h = refl
@@ -76,7 +76,7 @@ meant-right p before x (Some (a_constant c)) o (v, reported, holds, scalar) s h 
 meant-right p before x (Some (a_variable t)) o (u, reported, holds) s h = absurd (some-none s (sym h ∙ ap type_of_name holds))
 meant-right p before x (Some (a_procedure fs)) o (signature, holds, formals) s h = no-type o signature s holds h
 
--- an array with a known length
+-- No fault is reported for an array with a known length that isn't too large.
 array-right : (ordinal : ℕ) (o : Operand TypeId) (reported : Option ℕ) (count : ℕ) (u : so_far.TypedAfter) → reported ≡ Some count → is_within (array_size count (size_at u.following.made u.of)) ≡ true → (array_made ordinal o reported u).faults ≡ []
 array-right ordinal o reported count u e h = ap (λ c. (array_made ordinal o c u).faults) e ∙ make-right u.following _ ordinal (of_elements count u.of) (array_size count (size_at u.following.made u.of)) h
 

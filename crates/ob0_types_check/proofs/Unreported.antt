@@ -1,5 +1,5 @@
--- If nothing is reported for a whole, nothing is reported for its parts. If a definition decides by
--- a condition, the lemma is about any Bool in its place (`first-reported`, `second-reported`).
+-- If no fault is reported for a whole, no fault is reported for its parts. If a definition decides by a condition, the
+-- lemma is about any Bool instead of the condition (`first-reported`, `second-reported`).
 use Rattle.std.proofs.Common.{◌≡◌, Bool, true, false, ◌||◌, ◌&&◌, List, [], ◌∷◌, ◌++◌, if◌then◌else◌, Option, Some, None, option_and_then, refl, ap, ◌∙◌}
 use Rattle.ob0_scan.specs.declared.fault.Fault.{Fault}
 use Rattle.ob0_types_check.specs.Known.{Reported}
@@ -12,12 +12,12 @@ pub none-if : {A : Type 0} (b : Bool) (x : A) → (if b then [] else x ∷ []) �
 none-if true x h = refl
 none-if false x h = absurd (cc)
 
--- the first of two alternatives applies if the second has a fault
+-- If no fault is reported for a choice and the second alternative has one, the first alternative applies.
 pub first-reported : {A : Type 0} (b : Bool) (one other : Reported A) (x : Fault) → other.faults ≡ x ∷ [] → (if b then one else other).faults ≡ [] → (b ≡ true) × (one.faults ≡ [])
 first-reported true one other x e h = (refl, h)
 first-reported false one other x e h = absurd (cc)
 
--- the second applies if the first has a fault
+-- If no fault is reported for a choice and the first alternative has one, the second alternative applies.
 pub second-reported : {A : Type 0} (b : Bool) (one other : Reported A) (x : Fault) → one.faults ≡ x ∷ [] → (if b then one else other).faults ≡ [] → (b ≡ false) × (other.faults ≡ [])
 second-reported true one other x e h = absurd (cc)
 second-reported false one other x e h = (refl, h)
@@ -37,7 +37,7 @@ some-none a h = cc
 pub some-same : {A : Type 0} (a b : A) → Some a ≡ Some b → a ≡ b
 some-same a b h = ap (λ o. elim o [ Some x ↦ x | None ↦ a ]) h
 
--- one step after another
+-- If the first step gives a value, both steps give the result of the second step for that value.
 pub goes-on : {A B : Type 0} (next : A → Option B) (o : Option A) (a : A) (r : Option B) → o ≡ Some a → next a ≡ r → option_and_then next o ≡ r
 goes-on next o a r e h = ap (option_and_then next) e ∙ h
 

@@ -1,7 +1,6 @@
--- The values of expressions over constants, part by part, as operands have them. The part before a
--- chain of operands is also an operand. The chain's value depends on that operand's value, an
--- Option. So for each operator one lemma connects the operand with the evaluation, without a case
--- distinction.
+-- The values of expressions over constants, part by part, as the operands have them. In a list of terms or factors, the
+-- part before an operator is also an operand. The value of the list depends on that operand's value, an Option. So one
+-- lemma for each operator connects the operand with the evaluation, without a case distinction.
 use Rattle.std.proofs.Common.{◌≡◌, Bool, true, false, cond, [], ◌∷◌, Option, Some, None, option_and_then, option_map, is_some, refl, ap, ◌∙◌}
 use Rattle.ob0_tree.specs.declared.tree.AddOperator.{AddOperator}
 use Rattle.ob0_tree.specs.declared.tree.MultiplyOperator.{MultiplyOperator}
@@ -46,7 +45,7 @@ module _ {N : Type 0} (among : Meanings N Place (Unit {0})) where
   unfolding evaluate
   negation-valued f = given_step (evaluate_factor among [] f) negate
 
-  -- adds an operand
+  -- The value of a list of terms or factors after an operand is the value after one more term or factor.
   pub addend-valued : (o : AddOperator) (t : Tree N term) (ts : Tree N (items addend)) (x : Value)
       → given_value (evaluate_addends among [] x (more (adds o t) ts)) ≡ option_and_then (λ y. given_value (evaluate_addends among [] y ts)) (sum_value o (given_value (evaluate_term among [] t)) x)
   unfolding evaluate
@@ -61,7 +60,7 @@ module _ {N : Type 0} (among : Meanings N Place (Unit {0})) where
       given_step (elim (multiply_is_settled o x) [ true ↦ gives x | false ↦ evaluate_factor among [] f >>= multiply o x ]) (λ y. evaluate_multipliers among [] y fs)
       ∙ ap (option_and_then (λ y. given_value (evaluate_multipliers among [] y fs))) (given_settled (multiply_is_settled o x) x (evaluate_factor among [] f) (multiply o x))
 
-  -- a name without selectors has the value of its constant
+  -- A name without selectors has the value of its constant.
   whole-value : (v : Option Value) → given_value (object_value {P = Unit {0}} [] (option_map a_constant v) >>= (λ w. gives [] >>= (λ steps. or_stuck (at_path steps w)))) ≡ v
   whole-value None = refl
   whole-value (Some v) = refl
@@ -70,7 +69,7 @@ module _ {N : Type 0} (among : Meanings N Place (Unit {0})) where
   unfolding evaluate
   name-valued x c e = ap (λ o. given_value (object_value [] o >>= (λ w. gives [] >>= (λ steps. or_stuck (at_path steps w))))) e ∙ whole-value c
 
-  -- a constant has no parts
+  -- Selecting from a constant gives no value, because a constant has no parts.
   index-none : (v : Value) (o : Outcome Value) (ts : Tree N (items selector)) → is_some (value_type v) ≡ true
       → given_value ((o >>= (λ i. element_step v i >>= (λ s. or_stuck (part v s) >>= (λ w. follow among [] w ts >>= (λ steps. gives (s ∷ steps)))))) >>= (λ steps. or_stuck (at_path steps v))) ≡ None
   index-none v (ends e) ts h = refl

@@ -1,6 +1,6 @@
--- A body declares nothing: without the statements of one body the same names are declared, with the
--- same ordinals, and the remaining names have the same bindings. So if everything except those
--- statements fits, each of the other names is bound.
+-- A body declares nothing. So without the statements of one body the same names are declared, with the same ordinals,
+-- and the remaining names have the same bindings. If everything except those statements fits, each of the remaining
+-- names is bound.
 use Rattle.std.proofs.Common.{◌≡◌, ℕ, zero, suc, false, true≢false, Option, Some, None, List, [], ◌∷◌, map, refl, sym, ap, ◌∙◌, subst, arith}
 use Rattle.ob0_tree.specs.Parsed.{tree_of}
 use Rattle.ob0_tree.specs.Places.{named, text_at, value_at}
@@ -87,7 +87,7 @@ module _ (r : Resolution) (closing : ℕ) (is : IsResolution r) (f : FitsWithout
   abbrev left_named : Tree Name module_text
   left_named = named r.module_read.source left
 
-  -- the labels by token are the labels of the remaining names
+  -- The labels of the remaining names are the same, token by token, as in the whole module.
   left_by : {M : Type 0} (label : Labels Name M) (at : ℕ → M) → relabelled as_names label (named r.module_read.source (tree_of r.module_read)) ≡ mapped at (value_at r.module_read.source) (tree_of r.module_read)
       → relabelled as_names label left_named ≡ mapped at (value_at r.module_read.source) left
   left_by label at e =

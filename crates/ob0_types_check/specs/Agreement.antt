@@ -1,5 +1,4 @@
--- Agreement between the checker's facts at a place and the names and types that the definitions
--- give.
+-- Agreement between the checker's facts at a place and the names and types according to the definitions.
 -- Rule: none; for laws: what is known against what names and types are.
 use Rattle.std.specs.Prelude.{◌≡◌, ℕ, Bool, true, false, List, [], ◌∷◌, ◌++◌, Option, Some, None, option_map, option_and_then, is_some, slice_get}
 use Rattle.ob0_language_names.specs.Names.{Name}
@@ -18,8 +17,8 @@ use Rattle.ob0_language_values.specs.Values.{FieldShapes, Shape, Value, array_sh
 use Rattle.ob0_types_check.specs.Known.{Facts, Form, KnownFormal, Meaning, Types, a_constant, a_procedure, a_record, a_scalar, a_type, a_variable, an_array, unknown_form}
 use Rattle.ob0_types_check.specs.SoFar.{MadeType, PartTypes, FieldSoFar, of_elements, of_fields}
 
--- States that a type's form has the same parts as a shape. `shape` gives the shapes of types: None
--- if a type is unknown.
+-- Holds if a type's form has the same parts as a shape. `shape` returns the shape of a type, or None if the type is
+-- unknown.
 abbrev pub FormAgrees : {T : Type 0} → (T → Option Shape) → Form T → Shape → Type 0
 FormAgrees shape a_scalar s = Unit {0}
 FormAgrees shape (an_array t) s =
@@ -31,8 +30,8 @@ FormAgrees shape (a_record fields) s =
     × ((x : Name) → option_map shape (fields x) ≡ option_map Some (shape_of_field fs x))
 FormAgrees shape unknown_form s = ⊥
 
--- agreement of types with their shapes: equal types have the same shape, and a type's form has the
--- parts of its shape
+-- Holds if types agree with their shapes: equal types have the same shape, and a type's form has the parts of its
+-- shape.
 pub record TypesAgree {T : Type 0} (types : Types T) (shape : T → Option Shape) : Type 0 where
   pub integer : shape types.integer ≡ Some integer_shape
   pub boolean : shape types.boolean ≡ Some boolean_shape
@@ -41,7 +40,7 @@ pub record TypesAgree {T : Type 0} (types : Types T) (shape : T → Option Shape
   pub same : (s t : T) → types.same s t ≡ true → shape s ≡ shape t
   pub formed : (t : T) (s : Shape) → shape t ≡ Some s → FormAgrees shape (types.form t) s
 
--- states that parameters agree with the parameters of a signature, one by one
+-- holds if formal parameters agree with the parameters of a signature, one by one
 abbrev pub FormalsAgree : {T : Type 0}
     → (T → Option Shape)
     → List (KnownFormal T)
@@ -53,8 +52,8 @@ FormalsAgree shape (f ∷ fs) [] = ⊥
 FormalsAgree shape (f ∷ fs) (g ∷ gs) =
     (g.mode ≡ mode_of f.by_place) × (shape f.of ≡ Some g.shape) × FormalsAgree shape fs gs
 
--- states that the meaning of a name agrees with the object that it refers to: a type or variable by
--- its shape, a constant by its value, which is a scalar, and a procedure by its parameters
+-- Holds if the meaning of a name agrees with the object that the name refers to. A type or variable has the object's
+-- shape, a constant has its value, which is a scalar, and a procedure has its parameters.
 abbrev pub MeaningAgrees : {T : Type 0}
     → (T → Option Shape)
     → Meaning T
@@ -68,7 +67,7 @@ MeaningAgrees shape (a_variable t) o =
 MeaningAgrees shape (a_procedure fs) o =
     (signature : Signature) × (signature_of o ≡ Some signature) × FormalsAgree shape fs signature
 
--- true for a predeclared procedure
+-- returns true for a predeclared procedure
 abbrev pub is_standard : Option (meant.Object Shape Signature) → Bool
 is_standard None = false
 is_standard (Some (meant.a_type s)) = false
@@ -77,7 +76,7 @@ is_standard (Some (meant.a_variable s)) = false
 is_standard (Some (meant.a_procedure signature)) = false
 is_standard (Some (meant.a_standard p)) = true
 
--- states that the meaning of a declaration agrees with its object, and that both or neither exist
+-- holds if the meaning of a declaration agrees with its object, or neither exists
 abbrev pub DeclarationAgrees : (TypeId → Option Shape)
     → Option (Meaning TypeId)
     → Option (meant.Object Shape Signature)
@@ -85,7 +84,7 @@ abbrev pub DeclarationAgrees : (TypeId → Option Shape)
 DeclarationAgrees shape None o = o ≡ None
 DeclarationAgrees shape (Some m) o = MeaningAgrees shape m o
 
--- states that a name has a meaning and that it agrees with the object
+-- holds if a name has a meaning and this meaning agrees with the object
 abbrev pub MeansAlike : {T : Type 0}
     → (T → Option Shape)
     → Option (Meaning T)
@@ -94,8 +93,8 @@ abbrev pub MeansAlike : {T : Type 0}
 MeansAlike shape None o = ⊥
 MeansAlike shape (Some m) o = MeaningAgrees shape m o
 
--- States that the identifier at a token agrees with the name that a tree has as its label. A name
--- that is looked up has a meaning; a field is spelled as in the text.
+-- Holds if the identifier at a token agrees with the label that another tree has in its place. A looked-up name must
+-- have a meaning that agrees with the label's object. A field must be spelled as in the text.
 abbrev pub TokenAgrees : {T N : Type 0}
     → Facts T
     → (T → Option Shape)
@@ -112,7 +111,7 @@ TokenAgrees facts shape label meaning role.Declaring x = Unit {0}
 TokenAgrees facts shape label meaning role.ClosingName x = Unit {0}
 TokenAgrees facts shape label meaning role.ModuleName x = Unit {0}
 
--- states that each looked-up name has the right meaning, and that fields are spelled as in the text
+-- holds if each looked-up name has a meaning that agrees with its object, and each field is spelled as in the text
 abbrev pub TokensAgree : {T N : Type 0}
     → Facts T
     → (T → Option Shape)
@@ -124,28 +123,28 @@ TokensAgree facts shape label meaning [] = Unit {0}
 TokensAgree facts shape label meaning (x ∷ xs) =
     TokenAgrees facts shape label meaning x.0 x.1 × TokensAgree facts shape label meaning xs
 
--- agreement of the facts at a place with all names in an expression or in statements there
+-- holds if the facts at a place agree with all names in a part of the tree, such as an expression or statements
 pub record Agrees
     {T N : Type 0} (facts : Facts T) (shape : T → Option Shape) (label : ℕ → N) (meaning : Typed N)
     {s : Sort} (t : Tree ℕ s) : Type 0 where
   pub types : TypesAgree facts.types shape
   pub tokens : TokensAgree facts shape label meaning (identifiers role.Declaring t)
 
--- a shape if it is an array's
+-- returns the shape if it is an array's, otherwise None
 abbrev pub as_array : Shape → Option Shape
 as_array integer_shape = None
 as_array boolean_shape = None
 as_array (array_shape k n s) = Some (array_shape k n s)
 as_array (record_shape k fs) = None
 
--- a shape if it is a record's
+-- returns the shape if it is a record's, otherwise None
 abbrev pub as_record : Shape → Option Shape
 as_record integer_shape = None
 as_record boolean_shape = None
 as_record (array_shape k n s) = None
 as_record (record_shape k fs) = Some (record_shape k fs)
 
--- the shape of a type, from the shapes of the arrays and records so far, in order
+-- returns the shape of a type, given the shapes of the arrays and records so far; None for an unknown type
 abbrev pub shape_in : List Shape → TypeId → Option Shape
 shape_in shapes type.Integer = Some integer_shape
 shape_in shapes type.Boolean = Some boolean_shape
@@ -153,7 +152,7 @@ shape_in shapes (type.Array i) = option_and_then as_array (slice_get shapes i)
 shape_in shapes (type.Record i) = option_and_then as_record (slice_get shapes i)
 shape_in shapes type.Unknown = None
 
--- states that fields are the fields of a record's shape, one by one
+-- holds if the fields so far agree with the fields of a record's shape, one by one
 abbrev pub FieldsAgree : (TypeId → Option Shape) → List FieldSoFar → FieldShapes → Type 0
 FieldsAgree shape [] no_field_shape = Unit {0}
 FieldsAgree shape [] (next_field_shape x s fs) = ⊥
@@ -161,19 +160,19 @@ FieldsAgree shape (f ∷ fields) no_field_shape = ⊥
 FieldsAgree shape (f ∷ fields) (next_field_shape x s fs) =
     (f.name ≡ x) × (shape f.of ≡ Some s) × FieldsAgree shape fields fs
 
--- states that an array or record made by the word with this ordinal has the parts of its shape
+-- holds if the parts of an array or record agree with its shape, which the word with ordinal `k` makes
 abbrev pub PartsAgree : (TypeId → Option Shape) → ℕ → PartTypes → Shape → Type 0
 PartsAgree shape k (of_elements n t) s = (u : Shape) × (s ≡ array_shape k n u) × (shape t ≡ Some u)
 PartsAgree shape k (of_fields fields) s =
     (fs : FieldShapes) × (s ≡ record_shape k fs) × FieldsAgree shape fields fs
 
--- agreement of an array or record, with its size, and its shape
+-- holds if an array or record agrees with its shape in its parts and its size
 pub record MadeAgrees (shape : TypeId → Option Shape) (m : MadeType) (s : Shape) : Type 0 where
   pub parts : PartsAgree shape m.ordinal m.parts s
   pub scalars : m.size.scalars ≡ typing.scalars s
   pub depth : m.size.depth ≡ typing.depth s
 
--- states that each array and record agrees with its shape, whose parts are among the earlier ones
+-- holds if each array and record agrees with its shape, one by one; their parts are among the shapes before them
 abbrev pub EachMade : List Shape → List MadeType → List Shape → Type 0
 EachMade known [] [] = Unit {0}
 EachMade known [] (s ∷ ss) = ⊥
@@ -181,6 +180,6 @@ EachMade known (m ∷ ms) [] = ⊥
 EachMade known (m ∷ ms) (s ∷ ss) =
     MadeAgrees (shape_in known) m s × EachMade (known ++ s ∷ []) ms ss
 
--- states that the arrays and records agree with their shapes, one by one
+-- holds if all arrays and records agree with their shapes, one by one
 abbrev pub TableAgrees : List MadeType → List Shape → Type 0
 TableAgrees made shapes = EachMade [] made shapes

@@ -1,5 +1,5 @@
--- The faults of a module's declarations and bodies in the order in which they are reported: text
--- order. Each declaration is known after its text.
+-- The faults of a module's declarations and bodies, in the order in which they are reported: text order. Each
+-- declaration is known after its text.
 -- Rule: docs/LANGUAGE.md, Faults of scopes and types 2 to 11.
 use Rattle.std.specs.Prelude.{ℕ, Bool, true, false, List, [], ◌++◌, map}
 use Rattle.std.specs.List.{filter}
@@ -16,14 +16,14 @@ use Rattle.ob0_types_check.specs.StatementFaults.{reported_sequence}
 use Rattle.ob0_types_check.specs.TypeFaults.{reported_constant}
 use Rattle.ob0_types_check.specs.WrittenTypeFaults.{reported_type}
 
--- the faults of a constant, which is known after its right side
+-- returns the faults of a constant, and the state in which the constant is declared
 unfoldable pub constant_declared : SoFar → Tree ℕ (item constant) → Reported SoFar
 unfolding reported_constant
 constant_declared p (declares_constant x e) = do
   v ← reported_constant (facts_at p true) e
   right (define p (a_constant v) x)
 
--- the faults of constants, each known after its right side
+-- returns the faults of constants, and the state after them; each is known after its right side
 unfoldable pub reported_constants : SoFar → Tree ℕ (items constant) → Reported SoFar
 unfolding constant_declared
 reported_constants p end = right p
@@ -31,14 +31,14 @@ reported_constants p (more c rest) = do
   q ← constant_declared p c
   reported_constants q rest
 
--- the faults of a type declaration, which is known after its text
+-- returns the faults of a type declaration, and the state in which the type is declared
 unfoldable pub type_declared : SoFar → Tree ℕ (item type_name) → Reported SoFar
 unfolding reported_type
 type_declared p (declares_type x t) = do
   u ← reported_type 0 p t
   right (define u.following (a_type u.of) x)
 
--- the faults of type declarations, each known after its right side
+-- returns the faults of type declarations, and the state after them; each is known after its right side
 unfoldable pub reported_types : SoFar → Tree ℕ (items type_name) → Reported SoFar
 unfolding type_declared
 reported_types p end = right p
@@ -46,14 +46,14 @@ reported_types p (more d rest) = do
   q ← type_declared p d
   reported_types q rest
 
--- the faults of variables of one type
+-- returns the faults of a group of variables with one type, and the state in which they are declared
 unfoldable pub variables_declared : SoFar → Tree ℕ (item variable) → Reported SoFar
 unfolding reported_type
 variables_declared p (declares_variable ns t) = do
   u ← reported_type 0 p t
   right (define_all u.following (a_variable u.of) (names_listed ns))
 
--- the faults of variables, each known after its type
+-- returns the faults of variables, and the state after them; each is known after its type
 unfoldable pub reported_variables : SoFar → Tree ℕ (items variable) → Reported SoFar
 unfolding variables_declared
 reported_variables p end = right p
@@ -66,7 +66,7 @@ pub record KnownHeading : Type 0 where
   pub formals : List (KnownFormal TypeId)
   pub following : SoFar
 
--- adds parameters of one type, which are variables of their procedure
+-- adds parameters of one type to a heading, and declares them as variables of the procedure
 abbrev pub with_parameters : KnownHeading → Bool → List ℕ → TypedAfter → KnownHeading
 with_parameters h by_place xs t =
     record {
@@ -74,7 +74,7 @@ with_parameters h by_place xs t =
       following = define_all t.following (a_variable t.of) xs;
     }
 
--- the faults of parameters of one type
+-- returns the faults of parameters of one type, and the heading with these parameters
 unfoldable pub reported_parameters : KnownHeading
     → Bool
     → Tree ℕ names
@@ -85,7 +85,7 @@ reported_parameters h by_place ns t = do
   u ← reported_type 0 h.following t
   right (with_parameters h by_place (names_listed ns) u)
 
--- the faults of a section of parameters
+-- returns the faults of a section of parameters, and the heading with them
 unfoldable pub reported_section : KnownHeading
     → Tree ℕ (item further_section)
     → Reported KnownHeading
@@ -93,7 +93,7 @@ unfolding reported_parameters
 reported_section h (then_section (value_section ns t)) = reported_parameters h false ns t
 reported_section h (then_section (variable_section ns t)) = reported_parameters h true ns t
 
--- the faults of a heading's sections
+-- returns the faults of a heading's sections, and the heading with all parameters
 unfoldable pub reported_sections : KnownHeading
     → Tree ℕ (items further_section)
     → Reported KnownHeading
@@ -103,11 +103,11 @@ reported_sections h (more s rest) = do
   g ← reported_section h s
   reported_sections g rest
 
--- the state after a heading: the procedure is known, and so in its own block
+-- returns the state after a heading, in which the procedure is declared, so that its own block knows it
 abbrev pub after_heading : ℕ → KnownHeading → SoFar
 after_heading x h = define h.following (a_procedure h.formals) x
 
--- the faults of a body's statements
+-- returns the faults of a body's statements; the state is unchanged
 unfoldable pub reported_body : SoFar → Tree ℕ (maybe body) → Reported SoFar
 unfolding reported_sequence
 reported_body p none = right p
@@ -117,7 +117,7 @@ reported_body p (one (begins statements)) =
 unfoldable mutual
   unfolding reported_constants reported_types reported_variables reported_sections reported_body
 
-  -- the faults of a block: constants, types, variables, procedures, and then the statements
+  -- returns the faults of a block: of its constants, types, variables, procedures, and then its statements
   pub reported_block : SoFar → Tree ℕ block → Reported SoFar
   reported_block p (has_body (declares cs ts vs ps) statements) = do
     with_constants ← reported_constants p (section_constants cs)
@@ -126,20 +126,20 @@ unfoldable mutual
     with_procedures ← reported_procedures with_variables ps
     reported_body with_procedures statements
 
-  -- the faults of procedures; each knows the ones before it
+  -- returns the faults of procedures, one after another; each procedure knows the earlier ones
   pub reported_procedures : SoFar → Tree ℕ (items procedure) → Reported SoFar
   reported_procedures p end = right p
   reported_procedures p (more d rest) = do
     q ← reported_procedure p d
     reported_procedures q rest
 
-  -- the faults of a procedure: of its parameters, and then of its block
+  -- returns the faults of a procedure: of its parameters, and then of its block
   pub reported_procedure : SoFar → Tree ℕ (item procedure) → Reported SoFar
   reported_procedure p (declares_procedure x fs b closing) = do
     h ← reported_sections (record { formals = []; following = p }) (formal_sections fs)
     reported_block (after_heading x h) b
 
--- the undeclared names, in text order, and then the faults of types
+-- returns the undeclared names of a module in text order, and then its faults of types
 unfoldable pub reported_module : Resolution → List Fault
 unfolding reported_block
 reported_module r =

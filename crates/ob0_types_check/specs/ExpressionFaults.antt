@@ -1,5 +1,5 @@
--- The faults of an expression in the order in which they are reported: the faults of its parts from
--- left to right; after the parts of an operation, its own.
+-- The faults of an expression, in the order in which they are reported. The faults of its parts come first, from left
+-- to right, and then the faults of the operation.
 -- Rule: docs/LANGUAGE.md, Faults of scopes and types 2, 3, 5, 6.
 use Rattle.std.specs.Prelude.{ℕ}
 use Rattle.ob0_tree.specs.Tree.{Tree, addend, adds, compares, designator, end, expression, factor, field, index, integer, item, items, more, multiplier, multiplies, negation, none, one, parenthesised, product, relates, selector, simple, sum, term}
@@ -7,7 +7,7 @@ use Rattle.ob0_types_check.specs.Known.{Facts, Operand, Reported}
 use Rattle.ob0_types_check.specs.Operations.{a_number, add_operands, complement_operand, element_selected, enclosed, field_selected, multiply_operands, name_operand, relate_operands, right, sign_operand, ◌>>=◌}
 
 unfoldable mutual
-  -- the faults of an expression: its parts, and then the relation between them
+  -- returns the faults of an expression, and its operand: first its sides, then the relation between them
   pub reported_expression : {T : Type 0} → Facts T → Tree ℕ expression → Reported (Operand T)
   reported_expression facts (compares a none) = reported_simple facts a
   reported_expression facts (compares a (one (relates r b))) = do
@@ -15,14 +15,15 @@ unfoldable mutual
     y ← reported_simple facts b
     relate_operands facts r x y
 
-  -- the faults of a simple expression: its first term, its sign, and the other terms
+  -- returns the faults of a simple expression, and its operand: first its first term, then its sign, then the other
+  -- terms
   pub reported_simple : {T : Type 0} → Facts T → Tree ℕ simple → Reported (Operand T)
   reported_simple facts (sum s t rest) = do
     x ← reported_term facts t
     y ← sign_operand facts s x
     reported_addends facts y rest
 
-  -- the faults of terms added to an operand; operators of one level group to the left
+  -- returns the faults of terms that are added to an operand from left to right, and the resulting operand
   pub reported_addends : {T : Type 0}
       → Facts T
       → Operand T
@@ -34,13 +35,13 @@ unfoldable mutual
     z ← add_operands facts o x y
     reported_addends facts z rest
 
-  -- the faults of a term: its first factor, and the other factors
+  -- returns the faults of a term, and its operand: first its first factor, then the other factors
   pub reported_term : {T : Type 0} → Facts T → Tree ℕ term → Reported (Operand T)
   reported_term facts (product f rest) = do
     x ← reported_factor facts f
     reported_multipliers facts x rest
 
-  -- the faults of factors by which an operand is multiplied
+  -- returns the faults of factors that multiply an operand from left to right, and the resulting operand
   pub reported_multipliers : {T : Type 0}
       → Facts T
       → Operand T
@@ -52,7 +53,8 @@ unfoldable mutual
     z ← multiply_operands facts o x y
     reported_multipliers facts z rest
 
-  -- the faults of a factor: a designator, an integer, an expression in parentheses or a negation
+  -- returns the faults of a factor, and its operand: a designator, an integer, an expression in parentheses or a
+  -- negation
   pub reported_factor : {T : Type 0} → Facts T → Tree ℕ factor → Reported (Operand T)
   reported_factor facts (designator x path) = do
     base ← name_operand facts x
@@ -65,7 +67,7 @@ unfoldable mutual
     x ← reported_factor facts f
     complement_operand facts x
 
-  -- the faults of selectors applied to a designator so far
+  -- returns the faults of selectors applied to the operand of a designator, and the resulting operand
   pub reported_selectors : {T : Type 0}
       → Facts T
       → Operand T
@@ -80,7 +82,7 @@ unfoldable mutual
     y ← element_selected facts x i
     reported_selectors facts y rest
 
--- the faults of one selector
+-- returns the faults of one selector applied to the operand of a designator, and the resulting operand
 unfoldable pub reported_selector : {T : Type 0}
     → Facts T
     → Operand T

@@ -1,5 +1,5 @@
--- Facts about types, names and operands while faults are reported. A type may be unknown, as a
--- whole or in parts.
+-- The types, names and operands that are known while faults are reported. A type may be unknown, as a whole or in
+-- parts.
 -- Rule: docs/LANGUAGE.md, Faults of scopes and types 2.
 use Rattle.std.specs.Prelude.{ℕ, Bool, List, Option}
 use Rattle.ob0_scan.specs.declared.fault.Fault.{Fault}
@@ -7,14 +7,14 @@ use Rattle.ob0_scan.specs.Scanned.{Scanned}
 use Rattle.ob0_language_names.specs.Names.{Name}
 use Rattle.ob0_language_values.specs.Values.{Value}
 
--- the parts of a type, as far as they are known
+-- the form of a type: a scalar, an array with its element type, a record with its fields, or unknown
 pub data Form (T : Type 0) : Type 0 where
   a_scalar : Form T
   an_array : T → Form T
   a_record : (Name → Option T) → Form T
   unknown_form : Form T
 
--- any representation of types, in which one value means an unknown type
+-- a representation of types by `T`; one value of `T` is the unknown type
 pub record Types (T : Type 0) : Type 0 where
   pub integer : T
   pub boolean : T
@@ -22,29 +22,30 @@ pub record Types (T : Type 0) : Type 0 where
   pub same : T → T → Bool
   pub form : T → Form T
 
--- a formal parameter: passed by its place, as VAR, or by its value
+-- a formal parameter: its type, and whether it is passed by its place (VAR) or by its value
 pub record KnownFormal (T : Type 0) : Type 0 where
   pub by_place : Bool
   pub of : T
 
--- The meaning of a name: the type of a type or variable, or the value of a constant. If the
--- declaration has a fault, the type is unknown or there is no value.
+-- The meaning of a name: the type of a type or variable, the value of a constant, or the parameters of a procedure. If
+-- the declaration has a fault, the type is unknown or there is no value.
 pub data Meaning (T : Type 0) : Type 0 where
   a_type : T → Meaning T
   a_constant : Option Value → Meaning T
   a_variable : T → Meaning T
   a_procedure : List (KnownFormal T) → Meaning T
 
--- The facts at a place of a text. A name is identified by its token. In a constant expression names
--- may only refer to constants.
+-- The facts at a place of a text. A name is identified by its token. If `only_constants` is true, names may only refer
+-- to constants.
 pub record Facts (T : Type 0) : Type 0 where
   pub source : Scanned
   pub types : Types T
   pub object_for : ℕ → Option (Meaning T)
   pub only_constants : Bool
 
--- The facts about an expression: its type; its value, if it is constant and has no fault; whether
--- it is a name with selectors and may be a variable; its first and last token.
+-- The result of checking an expression: its type, its value, and its first and last token. The value is missing if the
+-- expression isn't constant or has a fault. `is_place` is true if the expression is a name with selectors and may be a
+-- variable.
 pub record Operand (T : Type 0) : Type 0 where
   pub of : T
   pub value : Option Value
@@ -52,7 +53,7 @@ pub record Operand (T : Type 0) : Type 0 where
   pub first : ℕ
   pub last : ℕ
 
--- a result, and the faults that are reported with it
+-- a result and the faults that are reported with it
 pub record Reported (A : Type 0) : Type 0 where
   pub known : A
   pub faults : List Fault

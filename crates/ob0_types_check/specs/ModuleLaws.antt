@@ -1,4 +1,4 @@
--- Laws of reported modules: if nothing is reported, the module fits and each declaration is known.
+-- Laws about the report of a module: if nothing is reported, the module fits and each declaration is known.
 -- Rule: none; laws of reported faults.
 use Rattle.std.specs.Prelude.{◌≡◌, ℕ, ◌<◌, ◌≤◌, true, false, List, [], None, length, slice_index_or}
 use Rattle.ob0_language_names.specs.Names.{Name, as_labels, as_names}
@@ -16,7 +16,7 @@ use Rattle.ob0_types_check.specs.Agreement.{DeclarationAgrees, TableAgrees, is_s
 use Rattle.ob0_types_check.specs.DeclarationFaults.{reported_block, reported_module}
 use Rattle.ob0_types_check.specs.SoFar.{SoFar, at_first}
 
--- states that a module for which nothing is reported fits
+-- A module fits if no fault of types and no undeclared name is reported.
 abbrev pub ModulesFit : Type 0
 ModulesFit =
     (r : Resolution)
@@ -24,9 +24,9 @@ ModulesFit =
     → reported_module r ≡ []
     → fits_over as_names (named_tree_of r.module_read) ≡ true
 
--- Agreement of the state after a module with its declarations. Its arrays and records have shapes,
--- and each ordinal has the meaning of its declaration. The predeclared names, including the
--- standard procedures, have the ordinals below 7.
+-- Holds if the state after a module agrees with its declarations. Its arrays and records agree with shapes, and each
+-- ordinal has the meaning of its declaration. The predeclared names, including the standard procedures, have the
+-- ordinals below 7.
 pub record KnowsDeclarations (p : SoFar) (m : Tree Name module_text) : Type 0 where
   pub shapes : List Shape
   pub table : TableAgrees p.made shapes
@@ -36,11 +36,12 @@ pub record KnowsDeclarations (p : SoFar) (m : Tree Name module_text) : Type 0 wh
   pub predeclared : (k : ℕ) → k < predeclared_count → declared_object m k ≡ object_bound (outermost as_labels) k
   pub room : predeclared_count ≤ length p.declared
 
--- states that a table has the object of each declaration of a module
+-- holds if a table has the object of each declaration of a module
 abbrev pub HasDeclarations : Tree Name module_text → Tables → Type 0
 HasDeclarations m t = (k : ℕ) → declared_in t k ≡ declared_object m k
 
--- states that after a module for which nothing is reported, each declaration is known
+-- If no fault of types and no undeclared name is reported for a module, the state after it has the meaning of each
+-- declaration.
 abbrev pub DeclarationsKnown : Type 0
 DeclarationsKnown =
     (r : Resolution)

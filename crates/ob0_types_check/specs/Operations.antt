@@ -1,4 +1,4 @@
--- The requirements of operations, names and selectors: their faults and their results.
+-- The requirements of operations, names and selectors: their faults and their resulting operands.
 -- Rule: docs/LANGUAGE.md, Types 2, 3, Faults of scopes and types 3, 5.
 use Rattle.std.specs.Prelude.{◌≡◌, ℕ, ◌+◌, ◌-◌, nat_lt, Bool, true, false, ◌||◌, List, [], ◌∷◌, ◌++◌, length, if◌then◌else◌, Option, Some, None, option_and_then, pos}
 use Rattle.ob0_scan.specs.declared.fault.Code.{Code}
@@ -21,34 +21,34 @@ use Rattle.ob0_language_values.specs.Values.{Value, elements, members, negate, n
 use Rattle.ob0_language_values.specs.Values.{apply_sign as with_sign}
 use Rattle.ob0_types_check.specs.Known.{Facts, Form, Meaning, Operand, Reported, Types, a_constant, a_procedure, a_record, a_scalar, a_type, a_variable, an_array, unknown_form}
 
--- the same result, after faults that were reported before
+-- returns the same result with the faults `before` put before its own faults
 abbrev pub preceded_by : {A : Type 0} → List Fault → Reported A → Reported A
 preceded_by before t = record { known = t.known; faults = before ++ t.faults }
 
--- a result without any fault
+-- returns a result that has no faults
 abbrev pub right : {A : Type 0} → A → Reported A
 right x = record { known = x; faults = [] }
 
 infixl 20 ◌>>=◌
--- one step after another: the faults of both, in order
+-- runs one step after another: the result has the faults of both steps, in order
 abbrev pub ◌>>=◌ : {A B : Type 0} → Reported A → (A → Reported B) → Reported B
 t >>= next = preceded_by t.faults (next t.known)
 
--- states that x is the result, and that its faults are reported after those from before
+-- holds if `x` is the result of `t`, and its faults are appended to the faults `before`
 pub record ReportsAfter
     {A : Type 0} (before after : List Fault) (x : A) (t : Reported A) : Type 0 where
   pub known : x ≡ t.known
   pub reported : after ≡ before ++ t.faults
 
--- the token before this one, or 0 for the first
+-- returns the token before this one, or 0 for the first token
 abbrev pub token_before : ℕ → ℕ
 token_before token = token - 1
 
--- the token after this one; the end of the text gives itself
+-- returns the token after this one; the end of the text is returned unchanged
 abbrev pub token_after : Scanned → ℕ → ℕ
 token_after source token = if nat_lt token (length source.tokens) then token + 1 else token
 
--- a fault from the start of one token to the end of another
+-- returns a fault whose span extends from the start of one token to the end of another
 abbrev pub fault_between : Scanned → Code → ℕ → ℕ → Fault
 fault_between source c first last =
     record {
@@ -56,30 +56,32 @@ fault_between source c first last =
       span = record { start = (span_at source first).start; end = (span_at source last).end };
     }
 
--- a list of one fault, from one token to another
+-- returns a list of one fault, whose span extends from one token to another
 abbrev pub at_tokens : {T : Type 0} → Facts T → Code → ℕ → ℕ → List Fault
 at_tokens facts c first last = fault_between facts.source c first last ∷ []
 
--- a fault at one token
+-- returns a list of one fault, whose span is one token
 abbrev pub at_token : {T : Type 0} → Facts T → Code → ℕ → List Fault
 at_token facts c token = at_tokens facts c token token
 
--- a fault at an operand
+-- returns a list of one fault, whose span is the whole operand
 abbrev pub at_operand : {T : Type 0} → Facts T → Code → Operand T → List Fault
 at_operand facts c o = at_tokens facts c o.first o.last
 
--- true if two types are equal or one is unknown: an unknown type fits everywhere
+-- returns true if two types are equal or one of them is unknown
 abbrev pub fits : {T : Type 0} → Types T → T → T → Bool
 fits types s t = types.same s t || (types.same s types.unknown || types.same t types.unknown)
 
--- requires a type of an operand: the operand is reported if its type is another, known one
+-- Requires a type of an operand. The operand is reported if its type is known and differs. The result is the required
+-- type if the operand has it, otherwise the unknown type.
 abbrev pub required : {T : Type 0} → Facts T → T → Operand T → Reported T
 required facts wanted o = record {
   known = if facts.types.same o.of wanted then wanted else facts.types.unknown;
   faults = if fits facts.types o.of wanted then [] else at_operand facts code.TypeMismatch o;
 }
 
--- requires a type of two operands: the left one is reported if it is wrong, otherwise the right one
+-- Requires a type of two operands. The left operand is reported if it doesn't fit, otherwise the right one if it
+-- doesn't. The result is the required type if both have it, otherwise the unknown type.
 abbrev pub required_both : {T : Type 0} → Facts T → T → Operand T → Operand T → Reported T
 required_both facts wanted a b =
     if fits facts.types a.of wanted
@@ -91,27 +93,27 @@ required_both facts wanted a b =
     }
     else record { known = facts.types.unknown; faults = at_operand facts code.TypeMismatch a }
 
--- the required type of both sides: INTEGER for `+` and `-`, BOOLEAN for OR
+-- returns the type that an operator requires of both operands: INTEGER for `+` and `-`, BOOLEAN for OR
 abbrev pub required_by_add : {T : Type 0} → Types T → AddOperator → T
 required_by_add types add_operator.Add = types.integer
 required_by_add types add_operator.Subtract = types.integer
 required_by_add types add_operator.Or = types.boolean
 
--- the required type of both sides: INTEGER for `*`, DIV and MOD, BOOLEAN for `&`
+-- returns the type that an operator requires of both operands: INTEGER for `*`, DIV and MOD, BOOLEAN for `&`
 abbrev pub required_by_multiply : {T : Type 0} → Types T → MultiplyOperator → T
 required_by_multiply types multiply_operator.Multiply = types.integer
 required_by_multiply types multiply_operator.Divide = types.integer
 required_by_multiply types multiply_operator.Modulo = types.integer
 required_by_multiply types multiply_operator.And = types.boolean
 
--- the required type of both sides of `=` and `#`: INTEGER or BOOLEAN, or none if the left side's
--- type is unknown
+-- Returns the type that `=` and `#` require of both operands: INTEGER or BOOLEAN. If the left operand's type is
+-- unknown, the result is unknown, so nothing is required.
 abbrev pub required_by_equality : {T : Type 0} → Types T → T → T
 required_by_equality types left =
     if types.same left types.integer then types.integer
     else if types.same left types.unknown then types.unknown else types.boolean
 
--- the required type of both sides of a relation: INTEGER, except for `=` and `#`
+-- returns the type that a relation requires of both operands: INTEGER, except for `=` and `#`
 abbrev pub required_by_relation : {T : Type 0} → Types T → Relation → T → T
 required_by_relation types relation.Equal left = required_by_equality types left
 required_by_relation types relation.NotEqual left = required_by_equality types left
@@ -120,21 +122,21 @@ required_by_relation types relation.LessEqual left = types.integer
 required_by_relation types relation.Greater left = types.integer
 required_by_relation types relation.GreaterEqual left = types.integer
 
--- the type of a comparison: BOOLEAN, or unknown if the type of its operands is
+-- returns the type of a comparison: BOOLEAN, or unknown if the type of its operands is unknown
 abbrev pub comparison_type : {T : Type 0} → Types T → T → T
 comparison_type types t = if types.same t types.unknown then types.unknown else types.boolean
 
--- an operation on two operands, with this type and value
+-- returns the operand for an operation on two operands, with this type and value
 abbrev pub joint_operand : {T : Type 0} → T → Option Value → Operand T → Operand T → Operand T
 joint_operand of value a b =
     record { of = of; value = value; is_place = false; first = a.first; last = b.last }
 
--- an operand with its sign
+-- returns the operand for a sign or `~` and the operand after it, with this type and value
 abbrev pub after_sign : {T : Type 0} → T → Option Value → Operand T → Operand T
 after_sign of value o =
     record { of = of; value = value; is_place = false; first = token_before o.first; last = o.last }
 
--- the faults of `+`, `-` and OR, and the resulting operand
+-- returns the faults of `+`, `-` and OR, and the resulting operand
 abbrev pub add_operands : {T : Type 0}
     → Facts T
     → AddOperator
@@ -145,7 +147,7 @@ add_operands facts o a b = do
   t ← required_both facts (required_by_add facts.types o) a b
   right (joint_operand t (option_and_then (sum_value o b.value) a.value) a b)
 
--- the faults of `*`, DIV, MOD and `&`, and the resulting operand
+-- returns the faults of `*`, DIV, MOD and `&`, and the resulting operand
 abbrev pub multiply_operands : {T : Type 0}
     → Facts T
     → MultiplyOperator
@@ -156,7 +158,7 @@ multiply_operands facts o a b = do
   t ← required_both facts (required_by_multiply facts.types o) a b
   right (joint_operand t (option_and_then (product_value o b.value) a.value) a b)
 
--- the faults of a relation, and the resulting operand
+-- returns the faults of a relation, and the resulting operand
 abbrev pub relate_operands : {T : Type 0}
     → Facts T
     → Relation
@@ -168,20 +170,20 @@ relate_operands facts r a b = do
   right (joint_operand (comparison_type facts.types t)
       (both (λ x y. given_value (relate r x y)) a.value b.value) a b)
 
--- the faults of a sign, which requires INTEGER
+-- returns the faults of a sign, which requires INTEGER, and the resulting operand
 abbrev pub sign_operand : {T : Type 0} → Facts T → Option Sign → Operand T → Reported (Operand T)
 sign_operand facts None o = right o
 sign_operand facts (Some s) o = do
   t ← required facts facts.types.integer o
   right (after_sign t (option_and_then (λ x. given_value (with_sign (Some s) x)) o.value) o)
 
--- the faults of `~`, which requires BOOLEAN
+-- returns the faults of `~`, which requires BOOLEAN, and the resulting operand
 abbrev pub complement_operand : {T : Type 0} → Facts T → Operand T → Reported (Operand T)
 complement_operand facts o = do
   t ← required facts facts.types.boolean o
   right (after_sign t (option_and_then (λ x. given_value (negate x)) o.value) o)
 
--- the operand of a number at this token
+-- returns the operand of a number at this token
 abbrev pub a_number : {T : Type 0} → Facts T → ℕ → Operand T
 a_number facts token =
     record {
@@ -192,7 +194,7 @@ a_number facts token =
       last = token;
     }
 
--- the operand of an expression in parentheses
+-- returns the operand of an expression in parentheses
 abbrev pub enclosed : {T : Type 0} → Facts T → Operand T → Operand T
 enclosed facts o =
     record {
@@ -203,11 +205,11 @@ enclosed facts o =
       last = token_after facts.source o.last;
     }
 
--- the operand of a name with this type: a variable's, or a name with no known meaning
+-- returns the operand of a variable's name with this type, or of a name without a known meaning
 abbrev pub a_name : {T : Type 0} → T → ℕ → Operand T
 a_name of token = record { of = of; value = None; is_place = true; first = token; last = token }
 
--- the type of a constant according to its value: INTEGER or BOOLEAN
+-- returns the type of a constant with this value: INTEGER or BOOLEAN, and unknown without a scalar value
 abbrev pub value_type : {T : Type 0} → Types T → Option Value → T
 value_type types None = types.unknown
 value_type types (Some (number n)) = types.integer
@@ -215,13 +217,13 @@ value_type types (Some (truth b)) = types.boolean
 value_type types (Some (elements vs)) = types.unknown
 value_type types (Some (members k ms)) = types.unknown
 
--- the operand of a constant's name
+-- returns the operand of a constant's name
 abbrev pub a_constant_name : {T : Type 0} → Types T → Option Value → ℕ → Operand T
 a_constant_name types v token =
     record { of = value_type types v; value = v; is_place = false; first = token; last = token }
 
--- A name that must refer to a value: not to a type or a procedure, and in a constant expression not
--- to a variable. Undeclared names are reported elsewhere.
+-- Returns the operand of a name that must refer to a value. A type or a procedure is a fault, and in a constant
+-- expression also a variable. Undeclared names are reported elsewhere.
 abbrev pub named_value : {T : Type 0} → Facts T → ℕ → Option (Meaning T) → Reported (Operand T)
 named_value facts token None = right (a_name facts.types.unknown token)
 named_value facts token (Some (a_constant v)) = right (a_constant_name facts.types v token)
@@ -237,22 +239,22 @@ named_value facts token (Some (a_procedure fs)) =
     record
     { known = a_name facts.types.unknown token; faults = at_token facts code.WrongKind token }
 
--- the operand of a name at a place that requires a value
+-- returns the operand of the name at a token that must refer to a value
 abbrev pub name_operand : {T : Type 0} → Facts T → ℕ → Reported (Operand T)
 name_operand facts token = named_value facts token (facts.object_for token)
 
--- the part of a designator up to this token, with this type; a part has no constant value
+-- returns the operand for the part of a designator up to this token, with this type and no constant value
 abbrev pub part_of : {T : Type 0} → Operand T → T → ℕ → Operand T
 part_of o of last =
     record { of = of; value = None; is_place = o.is_place; first = o.first; last = last }
 
--- the type of a record's field, or `NoField`
+-- returns the type of a record's field; None reports `NoField`
 abbrev pub found_field : {T : Type 0} → Facts T → ℕ → Option T → Reported T
 found_field facts token None =
     record { known = facts.types.unknown; faults = at_token facts code.NoField token }
 found_field facts token (Some t) = right t
 
--- the type of a field selected from a type; if it isn't a record, the `.` is reported
+-- returns the type of a field selected from a type; if that type isn't a record, `NotRecord` is reported at the `.`
 abbrev pub field_in : {T : Type 0} → Facts T → ℕ → Form T → Reported T
 field_in facts token (a_record fields) =
     found_field facts token (fields (text_at facts.source token))
@@ -264,13 +266,14 @@ field_in facts token (an_array t) =
     record
     { known = facts.types.unknown; faults = at_token facts code.NotRecord (token_before token) }
 
--- the operand of a designator with one more field
+-- returns the faults of selecting a field, and the operand of the designator with this field
 abbrev pub field_selected : {T : Type 0} → Facts T → Operand T → ℕ → Reported (Operand T)
 field_selected facts o token = do
   t ← field_in facts token (facts.types.form o.of)
   right (part_of o t token)
 
--- the type of an array's element; if the type isn't an array, the `[` before the index is reported
+-- Returns the type of an array's element, or unknown if the index isn't INTEGER. If the type isn't an array, `NotArray`
+-- is reported at the `[` before the index.
 abbrev pub element_in : {T : Type 0} → Facts T → Operand T → T → Form T → Reported T
 element_in facts i of (an_array t) =
     right (if facts.types.same of facts.types.integer then t else facts.types.unknown)
@@ -282,7 +285,8 @@ element_in facts i of (a_record fields) =
     record
     { known = facts.types.unknown; faults = at_token facts code.NotArray (token_before i.first) }
 
--- the operand of a designator with one more index, which must be INTEGER even if there is no array
+-- Returns the faults of an index, and the operand of the designator with this index. The index must be INTEGER even if
+-- there is no array.
 abbrev pub element_selected : {T : Type 0} → Facts T → Operand T → Operand T → Reported (Operand T)
 element_selected facts o i = do
   n ← required facts facts.types.integer i

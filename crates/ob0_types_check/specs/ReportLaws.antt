@@ -1,5 +1,4 @@
--- Laws of reported expressions and statements: they fit if nothing is reported. N is the type of
--- names.
+-- Laws about the reports of expressions and statements: they fit if nothing is reported. N is the type of names.
 -- Rule: none; laws of reported faults.
 use Rattle.std.specs.Prelude.{◌≡◌, ℕ, Bool, true, false, List, [], Option, Some, is_some}
 use Rattle.ob0_tree.specs.Places.{value_at}
@@ -16,13 +15,14 @@ use Rattle.ob0_types_check.specs.StatementFaults.{reported_sequence}
 use Rattle.ob0_types_check.specs.TypeFaults.{length_of, reported_constant}
 use Rattle.ob0_types_check.specs.Agreement.{Agrees, TableAgrees, TypesAgree, shape_in}
 
--- the meanings at a place; in a constant expression names may only refer to constants
+-- returns the meanings at a place; in a constant expression only constants have a meaning
 abbrev pub meaning_here : {N : Type 0} → Bool → Typed N → Typed N
 meaning_here true meaning = constants_only meaning
 meaning_here false meaning = meaning
 
--- Agreement of an operand with its expression: its type; its value, if it is constant, which has
--- that type. If it may be a place, it is a variable or parameter with its selectors.
+-- Holds if an operand agrees with its expression in its type and its value. The value is present if the expression is
+-- constant, and it has that type. If the operand may be a place, the expression is a variable or parameter with its
+-- selectors.
 pub record OperandFits
     {T N P : Type 0} (shape : T → Option Shape) (meaning : Meanings N Shape P) (o : Operand T)
     (e : Tree N expression) : Type 0 where
@@ -33,7 +33,7 @@ pub record OperandFits
   pub scalar : (v : Value) → o.value ≡ Some v → value_type v ≡ Some of
   pub placed : o.is_place ≡ true → variable_type meaning (lone_designator e) ≡ Some of
 
--- states that the operand of an expression is right if nothing is reported
+-- If no fault is reported for an expression, its operand agrees with the expression.
 abbrev pub ExpressionsFit : Type 0 → Type 0
 ExpressionsFit N =
     (p : SoFar) (only_constants : Bool) (shapes : List Shape) (label : ℕ → N) (meaning : Typed N)
@@ -43,7 +43,7 @@ ExpressionsFit N =
     → OperandFits (shape_in shapes) (meaning_here only_constants meaning)
     (reported_expression (facts_at p only_constants) e).known (mapped label (value_at p.source) e)
 
--- agreement of the reported value of a constant's right side, a scalar, with its value
+-- holds if the reported value of a constant's right side is its value, which is a scalar
 pub record ConstantFits
     {N : Type 0} (meaning : Typed N) (reported : Option Value) (e : Tree N expression)
     : Type 0 where
@@ -52,7 +52,7 @@ pub record ConstantFits
   pub given : constant_value meaning e ≡ Some value
   pub scalar : is_some (value_type value) ≡ true
 
--- states that the value of a constant's right side is right if nothing is reported
+-- If no fault is reported for a constant's right side, the reported value is the value of that expression.
 abbrev pub ConstantsFit : Type 0 → Type 0
 ConstantsFit N =
     (p : SoFar) (shapes : List Shape) (label : ℕ → N) (meaning : Typed N) (e : Tree ℕ expression)
@@ -61,7 +61,7 @@ ConstantsFit N =
     → ConstantFits meaning (reported_constant (facts_at p true) e).known
     (mapped label (value_at p.source) e)
 
--- agreement of the reported length of an array with its value
+-- holds if the reported length of an array is the length that its expression gives
 pub record LengthFits
     {N : Type 0} (meaning : Typed N) (reported : Option ℕ) (e : Tree N expression) : Type 0 where
   pub value : Value
@@ -70,7 +70,7 @@ pub record LengthFits
   pub given : constant_value meaning e ≡ Some value
   pub counted : array_length value ≡ Some length
 
--- states that the length of an array is right if nothing is reported
+-- If no fault is reported for an array's length, the reported length is the length that its expression gives.
 abbrev pub LengthsFit : Type 0 → Type 0
 LengthsFit N =
     (p : SoFar) (shapes : List Shape) (label : ℕ → N) (meaning : Typed N) (e : Tree ℕ expression)
@@ -80,7 +80,7 @@ LengthsFit N =
     (reported_expression (facts_at p true) e >>= length_of (facts_at p false)).known
     (mapped label (value_at p.source) e)
 
--- states that statements fit if nothing is reported
+-- Statements fit if no fault is reported for them.
 abbrev pub StatementsFit : Type 0 → Type 0
 StatementsFit N =
     (p : SoFar) (shapes : List Shape) (label : ℕ → N) (meaning : Typed N)
@@ -89,7 +89,7 @@ StatementsFit N =
     → reported_sequence (facts_at p false) statements ≡ []
     → sequence_fits meaning (mapped label (value_at p.source) statements) ≡ true
 
--- states that types agree with their shapes if the arrays and records do
+-- If the arrays and records agree with their shapes, so do all types.
 abbrev pub TypesOfTables : Type 0
 TypesOfTables =
     (made : List MadeType) (shapes : List Shape)

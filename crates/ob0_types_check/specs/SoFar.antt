@@ -1,5 +1,5 @@
--- The state at a place of a module while its faults are reported: the declarations before it, and
--- the arrays and records before it.
+-- The state at a place of a module while its faults are reported: the declarations before the place, and the arrays and
+-- records before it.
 -- Rule: docs/LANGUAGE.md, Scopes 2, Faults of scopes and types 2.
 use Rattle.std.specs.Prelude.{ℕ, nat_le, Bool, true, false, ◌==◌, ◌&&◌, List, [], ◌∷◌, ◌++◌, length, map, slice_get, slice_index_or, slice_set, if◌then◌else◌, Option, Some, None, option_and_then}
 use Rattle.ob0_scan.specs.declared.fault.Code.TheVariants as code
@@ -13,36 +13,36 @@ use Rattle.ob0_language_values.specs.Values.{truth}
 use Rattle.ob0_types_check.specs.Known.{Facts, Form, Meaning, Reported, Types, a_constant, a_procedure, a_record, a_scalar, a_type, an_array, unknown_form}
 use Rattle.ob0_types_check.specs.Operations.{at_token, right}
 
--- the number of scalars in a type, and how many arrays and records are inside one another
+-- the size of a type: the number of its scalars, and the depth to which its arrays and records are nested
 pub record Size : Type 0 where
   pub scalars : ℕ
   pub depth : ℕ
 
--- a field of a record
+-- a field of a record, with its name and type
 pub record FieldSoFar : Type 0 where
   pub name : Name
   pub of : TypeId
 
--- the parts of an array or a record: how many elements of which type, or its fields in order
+-- the parts of an array or a record: the number and type of its elements, or its fields in order
 pub data PartTypes : Type 0 where
   of_elements : ℕ → TypeId → PartTypes
   of_fields : List FieldSoFar → PartTypes
 
--- an array or record that was made: the ordinal of its word ARRAY or RECORD, its parts and its size
+-- an array or record: the ordinal of its word ARRAY or RECORD, its parts and its size
 pub record MadeType : Type 0 where
   pub ordinal : ℕ
   pub parts : PartTypes
   pub size : Size
 
--- The declarations by their ordinals, to which names are bound, and the arrays and records by their
--- places in a type. A declaration later in the text has no meaning yet.
+-- The declarations found so far, by ordinal, and the arrays and records found so far. Types refer to arrays and records
+-- by their indexes in the list. A declaration later in the text has no meaning yet.
 pub record SoFar : Type 0 where
   pub source : Scanned
   pub ordinals : List (Option ℕ)
   pub declared : List (Option (Meaning TypeId))
   pub made : List MadeType
 
--- true if two types are the same; an array or record is only the same as itself
+-- returns true if two types are the same; an array or record is the same only as itself
 abbrev pub same_type : TypeId → TypeId → Bool
 same_type type.Integer type.Integer = true
 same_type type.Boolean type.Boolean = true
@@ -51,32 +51,32 @@ same_type (type.Array i) (type.Array j) = i == j
 same_type (type.Record i) (type.Record j) = i == j
 same_type _ _ = false
 
--- the element type in an array's parts
+-- returns the element type in an array's parts; unknown for the parts of a record
 abbrev pub elements_in : PartTypes → TypeId
 elements_in (of_elements n t) = t
 elements_in (of_fields fields) = type.Unknown
 
--- the type of an array's elements; unknown if there is no array
+-- returns the type of an array's elements; unknown if there is no array
 abbrev pub elements_at : Option MadeType → TypeId
 elements_at None = type.Unknown
 elements_at (Some m) = elements_in m.parts
 
--- the type of the first field with a name
+-- returns the type of the first field with this name; None if there is none
 abbrev pub first_field : List FieldSoFar → Name → Option TypeId
 first_field [] x = None
 first_field (f ∷ fields) x = if same_name x f.name then Some f.of else first_field fields x
 
--- the type of a field in a record's parts
+-- returns the type of a field in a record's parts; None if there is none
 abbrev pub field_type_in : PartTypes → Name → Option TypeId
 field_type_in (of_elements n t) x = None
 field_type_in (of_fields fields) x = first_field fields x
 
--- the type of a record's field, if there is a record
+-- returns the type of a record's field; None if there is no record or no such field
 abbrev pub made_field_type : Option MadeType → Name → Option TypeId
 made_field_type None x = None
 made_field_type (Some m) x = field_type_in m.parts x
 
--- the form of a type: a scalar, an array, a record, or unknown
+-- returns the form of a type: a scalar, an array, a record, or unknown
 abbrev pub form_at : List MadeType → TypeId → Form TypeId
 form_at made type.Integer = a_scalar
 form_at made type.Boolean = a_scalar
@@ -84,7 +84,7 @@ form_at made (type.Array i) = an_array (elements_at (slice_get made i))
 form_at made (type.Record i) = a_record (made_field_type (slice_get made i))
 form_at made type.Unknown = unknown_form
 
--- the types so far
+-- returns the types so far as a representation of types
 abbrev pub types_at : List MadeType → Types TypeId
 types_at made =
     record {
@@ -95,12 +95,12 @@ types_at made =
       form = form_at made;
     }
 
--- the meaning of the name at a token
+-- returns the meaning of the name at a token; None if it is unbound or its declaration isn't known yet
 abbrev pub meaning_at : SoFar → ℕ → Option (Meaning TypeId)
 meaning_at p token =
     option_and_then (λ k. slice_index_or p.declared k None) (ordinal_in p.ordinals token)
 
--- the facts at a place, for any expression or for constant expressions only
+-- returns the facts at a place, for any expression or for constant expressions only
 abbrev pub facts_at : SoFar → Bool → Facts TypeId
 facts_at p only_constants =
     record {
@@ -110,7 +110,7 @@ facts_at p only_constants =
       only_constants = only_constants;
     }
 
--- the state with the declaration of an ordinal, if there is one
+-- returns the state in which the declaration with this ordinal has this meaning; without an ordinal it is unchanged
 abbrev pub with_declared : SoFar → Meaning TypeId → Option ℕ → SoFar
 with_declared p m None = p
 with_declared p m (Some k) =
@@ -121,29 +121,29 @@ with_declared p m (Some k) =
       made = p.made;
     }
 
--- the state after a declaration
+-- returns the state in which the declaration at a token has this meaning
 abbrev pub define : SoFar → Meaning TypeId → ℕ → SoFar
 define p m token = with_declared p m (ordinal_in p.ordinals token)
 
--- the state after several declarations with the same meaning
+-- returns the state in which the declarations at these tokens all have this meaning
 abbrev pub define_all : SoFar → Meaning TypeId → List ℕ → SoFar
 define_all p m [] = p
 define_all p m (x ∷ xs) = define_all (define p m x) m xs
 
--- the size of INTEGER and BOOLEAN
+-- returns the size of INTEGER and BOOLEAN
 abbrev pub one_scalar : Size
 one_scalar = record { scalars = 1; depth = 0 }
 
--- the size of an unknown type, or of no parts
+-- returns the size of an unknown type, or of no parts
 abbrev pub no_scalar : Size
 no_scalar = record { scalars = 0; depth = 0 }
 
--- the size of an array or record
+-- returns the size of an array or record in the list; a missing one counts as one scalar
 abbrev pub size_made : Option MadeType → Size
 size_made None = one_scalar
 size_made (Some m) = m.size
 
--- the size of a type; an unknown type counts nothing
+-- returns the size of a type; an unknown type has no scalars
 abbrev pub size_at : List MadeType → TypeId → Size
 size_at made type.Integer = one_scalar
 size_at made type.Boolean = one_scalar
@@ -151,7 +151,7 @@ size_at made (type.Array i) = size_made (slice_get made i)
 size_at made (type.Record i) = size_made (slice_get made i)
 size_at made type.Unknown = no_scalar
 
--- true if a type has at most 65,536 scalars, and at most 100 arrays and records inside one another
+-- returns true if a type has at most 65,536 scalars, and its arrays and records are nested at most 100 deep
 abbrev pub is_within : Size → Bool
 is_within z = nat_le z.scalars max_scalars && nat_le z.depth max_depth
 
@@ -160,12 +160,12 @@ pub record TypedAfter : Type 0 where
   pub of : TypeId
   pub following : SoFar
 
--- the type of the array or record at this place of the list
+-- returns the type of the array or record at this index of the list
 abbrev pub type_with : PartTypes → ℕ → TypeId
 type_with (of_elements n t) k = type.Array k
 type_with (of_fields fields) k = type.Record k
 
--- Adds a new array or record after the others.
+-- Appends a new array or record, and returns its type with the new state.
 abbrev pub made : SoFar → ℕ → PartTypes → Size → TypedAfter
 made p ordinal parts size = record {
   of = type_with parts (length p.made);
@@ -178,7 +178,7 @@ made p ordinal parts size = record {
       };
 }
 
--- `TypeTooLarge` at the word ARRAY or RECORD, and an unknown type
+-- reports `TypeTooLarge` at the word ARRAY or RECORD, and returns an unknown type
 abbrev pub too_large : SoFar → ℕ → Reported TypedAfter
 too_large p word =
     record {
@@ -186,12 +186,12 @@ too_large p word =
       faults = at_token (facts_at p false) code.TypeTooLarge word;
     }
 
--- adds a new array or record, or reports `TypeTooLarge` at its word
+-- appends a new array or record and returns its type, or reports `TypeTooLarge` at its word
 abbrev pub make : SoFar → ℕ → ℕ → PartTypes → Size → Reported TypedAfter
 make p word ordinal parts size =
     if is_within size then right (made p ordinal parts size) else too_large p word
 
--- the predeclared names: INTEGER, BOOLEAN, TRUE, FALSE, Read, Write, WriteLn
+-- the meanings of the predeclared names, by ordinal: INTEGER, BOOLEAN, TRUE, FALSE, Read, Write, WriteLn
 abbrev pub predeclared_meanings : List (Option (Meaning TypeId))
 predeclared_meanings =
     Some (a_type type.Integer) ∷ Some (a_type type.Boolean)
@@ -200,7 +200,7 @@ predeclared_meanings =
     ∷ Some (a_procedure (record { by_place = false; of = type.Integer } ∷ []))
     ∷ Some (a_procedure []) ∷ []
 
--- the state at the beginning of a module
+-- returns the state at the beginning of a module, in which only the predeclared names are known
 abbrev pub at_first : Resolution → SoFar
 at_first r =
     record {

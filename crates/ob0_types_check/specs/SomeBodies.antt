@@ -1,5 +1,4 @@
--- The report of a module's declarations and of only some of its bodies, and the list of bodies with
--- faults.
+-- The report of a module's declarations and of only some of its bodies, and the list of bodies that have faults.
 -- Rule: docs/LANGUAGE.md, Faults of scopes and types 2 to 11; what is reported where one body changed.
 use Rattle.std.specs.Prelude.{◌≡◌, ℕ, Bool, true, false, ◌||◌, List, [], ◌∷◌, ◌++◌, MatchOption, nat_eq}
 use Rattle.std.specs.List.{list_any}
@@ -19,17 +18,17 @@ use Rattle.ob0_types_check.specs.declared.reporting.Report.{Report}
 use Rattle.ob0_types_check.specs.declared.reporting.Wanted.{Wanted}
 use Rattle.ob0_types_check.specs.declared.reporting.supposed.Supposed.{Supposed}
 
--- the state so far, and the bodies with a reported fault, by their closing names
+-- the state of a walk: the declarations so far, and the closing names of the bodies with a reported fault
 pub record Walked : Type 0 where
   pub so_far : SoFar
   pub faulty : List ℕ
 
--- appends a body to the list if it has faults
+-- appends a body's closing name to the list if the body has faults
 abbrev pub with_faulty : List Fault → ℕ → List ℕ → List ℕ
 with_faulty [] own faulty = faulty
 with_faulty (fault ∷ faults) own faulty = faulty ++ own ∷ []
 
--- the faults of a body, if it is wanted; its block is closed at this token
+-- returns the faults of a body if it is wanted; `own` is the token of its block's closing name
 abbrev pub body_if : Bool → ℕ → Walked → Tree ℕ (maybe body) → Reported Walked
 body_if false own w statements = right w
 body_if true own w statements =
@@ -45,8 +44,8 @@ body_if true own w statements =
 unfoldable mutual
   unfolding reported_constants reported_types reported_variables reported_sections reported_body
 
-  -- the faults of a block's declarations, and of its statements if its closing name passes a test;
-  -- the number is the token of the closing name
+  -- Returns the faults of a block's declarations, and of its statements if its closing name `own` passes the test
+  -- `wanted`.
   pub block_with : (ℕ → Bool) → ℕ → Walked → Tree ℕ block → Reported Walked
   block_with wanted own w (has_body (declares cs ts vs ps) statements) = do
     with_constants ← reported_constants w.so_far (section_constants cs)
@@ -56,55 +55,56 @@ unfoldable mutual
         procedures_with wanted (record { so_far = with_variables; faulty = w.faulty }) ps
     body_if (wanted own) own with_procedures statements
 
-  -- the faults of procedures, one after the other
+  -- returns the faults of procedures, one after another
   pub procedures_with : (ℕ → Bool) → Walked → Tree ℕ (items procedure) → Reported Walked
   procedures_with wanted w end = right w
   procedures_with wanted w (more d rest) = do
     v ← procedure_with wanted w d
     procedures_with wanted v rest
 
-  -- the faults of a procedure's parameters, and of its block
+  -- returns the faults of a procedure: of its parameters, and then of its block
   pub procedure_with : (ℕ → Bool) → Walked → Tree ℕ (item procedure) → Reported Walked
   procedure_with wanted w (declares_procedure x fs b closing) = do
     h ← reported_sections (record { formals = []; following = w.so_far }) (formal_sections fs)
     block_with wanted closing (record { so_far = after_heading x h; faulty = w.faulty }) b
 
--- the faults of a module's declarations, and of the bodies that pass a test
+-- returns the faults of a module's declarations, and of the bodies whose closing names pass the test
 abbrev pub module_with : (ℕ → Bool) → Resolution → Reported Walked
 module_with wanted r =
     block_with wanted r.module_read.closing (record { so_far = at_first r; faulty = [] })
     (module_block (tree_of r.module_read))
 
--- the test that every body passes
+-- the test that every closing name passes
 abbrev pub every : ℕ → Bool
 every closing = true
 
--- the bodies of a module with a reported fault, by their closing names, in text order
+-- returns the closing names of the bodies with a reported fault, in text order
 abbrev pub faulty_bodies : Resolution → List ℕ
 faulty_bodies r = (module_with every r).known.faulty
 
--- true for a closing name in a list
+-- returns true if the closing name is in the list
 abbrev pub is_among : List ℕ → ℕ → Bool
 is_among bodies closing = list_any (λ k. nat_eq k closing) bodies
 
--- states that each closing name in a list passes a test
+-- holds if each closing name in the list passes the test
 abbrev pub AllPass : (ℕ → Bool) → List ℕ → Type 0
 AllPass test [] = Unit {0}
 AllPass test (closing ∷ others) = (test closing ≡ true) × AllPass test others
 
--- true if a body is walked
+-- returns true if the body with this closing name has to be walked
 abbrev pub wants : Wanted → ℕ → Bool
 wants w closing = w.every || is_among w.these.now closing
 
--- States that the wanted bodies include every body with a fault in an older version of the module.
--- The versions are alike except in wanted bodies.
+-- Holds if the wanted bodies include every body that had a fault in some older version of the module. Both versions are
+-- alike except in the statements of wanted bodies.
 pub record WereFaulty (wanted : ℕ → Bool) (r : Resolution) : Type 0 where
   pub old : Resolution
   pub resolved : IsResolution old
   pub faulty : AllPass wanted (faulty_bodies old)
   pub alike : AreAlikeBut wanted old r
 
--- states that walking only the wanted bodies then gives the same report as walking all
+-- Walking only the wanted bodies gives the same report as walking all bodies, if the wanted ones include every body
+-- that had a fault or changed.
 abbrev pub SomeBodiesReported : Type 0
 SomeBodiesReported =
     (wanted : ℕ → Bool) (r : Resolution)
@@ -112,20 +112,18 @@ SomeBodiesReported =
     → WereFaulty wanted r
     → module_with wanted r ≡ module_with every r
 
--- states that a report has the faults of a module, its declarations if there are no faults, and its
--- bodies with faults
+-- holds if a report has the faults of a module, its declarations if there are no faults, and its bodies with faults
 pub record IsReportOf (r : Resolution) (report : Report) : Type 0 where
   pub faults : report.faults.items ≡ reported_module r
   pub known : MatchOption report.known (reported_module r ≡ [] → ⊥)
       (λ t. (reported_module r ≡ []) × HasDeclarations (named_tree_of r.module_read) t)
   pub faulty : report.faulty.items ≡ faulty_bodies r
 
--- the state of the code's walk, as a value of the definitions
+-- returns the state of the code's walk as a state of the definitions
 abbrev pub walked_in : Supposed → List ℕ → Walked
 walked_in s faulty = record { so_far = so_far_in s; faulty = faulty }
 
--- states that a walk over a module has ended: it has the faults, the final state and the bodies
--- with faults
+-- holds if the walk over a module has ended with its faults, its final state and its bodies with faults
 pub record HasWalked
     (r : Resolution) (found : List Fault) (s : Supposed) (faulty : List ℕ) : Type 0 where
   pub faults : found ≡ reported_module r

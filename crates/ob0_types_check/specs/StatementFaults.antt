@@ -1,5 +1,5 @@
--- The faults of statements in the order in which they are reported: statement by statement, and in
--- each the faults of its parts from left to right.
+-- The faults of statements, in the order in which they are reported: statement by statement, and within a statement
+-- part by part from left to right.
 -- Rule: docs/LANGUAGE.md, Types 2, 5, Faults of scopes and types 5, 7 to 9.
 use Rattle.std.specs.Prelude.{ℕ, nat_eq, ◌&&◌, not, List, [], ◌∷◌, ◌++◌, length, Option, Some, None, if◌then◌else◌}
 use Rattle.ob0_scan.specs.declared.fault.Code.TheVariants as code
@@ -10,17 +10,17 @@ use Rattle.ob0_types_check.specs.Known.{Facts, KnownFormal, Meaning, Operand, Re
 use Rattle.ob0_types_check.specs.ExpressionFaults.{reported_expression, reported_selectors}
 use Rattle.ob0_types_check.specs.Operations.{a_name, required, at_operand, at_token, right, ◌>>=◌}
 
--- the faults of an expression that must have a type
+-- returns the faults of an expression that must have the type `wanted`
 unfoldable pub reported_required : {T : Type 0} → Facts T → T → Tree ℕ expression → List Fault
 unfolding reported_expression
 reported_required facts wanted e = (reported_expression facts e >>= required facts wanted).faults
 
--- the faults of a condition, which must be BOOLEAN
+-- returns the faults of a condition, which must be BOOLEAN
 abbrev pub reported_condition : {T : Type 0} → Facts T → Tree ℕ expression → List Fault
 reported_condition facts e = reported_required facts facts.types.boolean e
 
--- The type of an assignment's target, which must be a variable or parameter. For any other name the
--- type is unknown, so nothing more is required of its selectors and of the right side.
+-- Returns the type of the name that is assigned to. The name must be a variable's or parameter's. For any other name
+-- the type is unknown, so its selectors and the right side may have any type.
 abbrev pub target_by_meaning : {T : Type 0} → Facts T → ℕ → Option (Meaning T) → Reported T
 target_by_meaning facts token (Some (a_variable t)) = right t
 target_by_meaning facts token (Some (a_constant v)) =
@@ -31,11 +31,11 @@ target_by_meaning facts token (Some (a_procedure fs)) =
     record { known = facts.types.unknown; faults = at_token facts code.WrongKind token }
 target_by_meaning facts token None = right facts.types.unknown
 
--- the type of the name that is assigned to, and its fault
+-- returns the type of the name at a token that is assigned to, and its fault
 abbrev pub target_meaning : {T : Type 0} → Facts T → ℕ → Reported T
 target_meaning facts token = target_by_meaning facts token (facts.object_for token)
 
--- the faults of an assignment's target
+-- returns the faults of an assignment's target with its selectors, and its operand
 unfoldable pub reported_target : {T : Type 0}
     → Facts T
     → ℕ
@@ -46,7 +46,7 @@ reported_target facts x path = do
   t ← target_meaning facts x
   reported_selectors facts (a_name t x) path
 
--- the faults of an assignment, whose right side must have the type of the target
+-- returns the faults of an assignment, whose right side must have the type of the target
 abbrev pub reported_assignment : {T : Type 0}
     → Facts T
     → Reported (Operand T)
@@ -54,14 +54,15 @@ abbrev pub reported_assignment : {T : Type 0}
     → List Fault
 reported_assignment facts target e = target.faults ++ reported_required facts target.known.of e
 
--- requires the type of a parameter, and for a VAR parameter a variable with its selectors
+-- Requires the type of the parameter from an argument. For a VAR parameter the argument must also be a variable with
+-- its selectors.
 abbrev pub passed : {T : Type 0} → Facts T → KnownFormal T → Operand T → Reported T
 passed facts f o =
     if f.by_place && not o.is_place
     then record { known = facts.types.unknown; faults = at_operand facts code.NotVariable o }
     else required facts f.of o
 
--- the faults of an argument
+-- returns the faults of an argument, including a mismatch with its parameter
 unfoldable pub reported_argument : {T : Type 0}
     → Facts T
     → KnownFormal T
@@ -70,7 +71,7 @@ unfoldable pub reported_argument : {T : Type 0}
 unfolding reported_expression
 reported_argument facts f e = (reported_expression facts e >>= passed facts f).faults
 
--- the faults of arguments, each with its parameter
+-- returns the faults of arguments, each with its parameter
 abbrev pub reported_arguments : {T : Type 0}
     → Facts T
     → List (KnownFormal T)
@@ -81,14 +82,14 @@ reported_arguments facts (f ∷ fs) [] = []
 reported_arguments facts (f ∷ fs) (e ∷ es) =
     reported_argument facts f e ++ reported_arguments facts fs es
 
--- the faults of arguments of any type
+-- returns the faults of arguments that may have any type
 abbrev pub reported_parts : {T : Type 0} → Facts T → List (Tree ℕ expression) → List Fault
 reported_parts facts [] = []
 reported_parts facts (e ∷ es) = (reported_expression facts e).faults ++ reported_parts facts es
 
--- The faults of a call. A procedure needs as many arguments as it has parameters; otherwise nothing
--- more is reported about them. If the name isn't a procedure's, the arguments may have any type. An
--- undeclared name is reported elsewhere.
+-- Returns the faults of a call. A procedure needs as many arguments as it has parameters; otherwise only their number
+-- is reported. If the name isn't a procedure's, the arguments may have any type. An undeclared name is reported
+-- elsewhere.
 abbrev pub call_by_meaning : {T : Type 0}
     → Facts T
     → ℕ
@@ -107,14 +108,14 @@ call_by_meaning facts p (Some (a_variable t)) es =
     at_token facts code.WrongKind p ++ reported_parts facts es
 call_by_meaning facts p None es = reported_parts facts es
 
--- the faults of a call
+-- returns the faults of a call of the name at a token
 abbrev pub reported_call : {T : Type 0} → Facts T → ℕ → List (Tree ℕ expression) → List Fault
 reported_call facts p es = call_by_meaning facts p (facts.object_for p) es
 
 unfoldable mutual
   unfolding reported_required reported_target reported_argument
 
-  -- the faults of a statement, and of the statements in it
+  -- returns the faults of a statement, including the faults of the statements in it
   pub reported_statement : {T : Type 0} → Facts T → Tree ℕ statement → List Fault
   reported_statement facts empty = []
   reported_statement facts (assigns x path e) =
@@ -129,25 +130,25 @@ unfoldable mutual
   reported_statement facts (repeat_loop statements e) =
       reported_sequence facts statements ++ reported_condition facts e
 
-  -- the faults of a sequence, statement by statement
+  -- returns the faults of a sequence, statement by statement
   pub reported_sequence : {T : Type 0} → Facts T → Tree ℕ sequence → List Fault
   reported_sequence facts (runs a rest) =
       reported_statement facts a ++ reported_statements facts rest
 
-  -- the faults of the statements after the first
+  -- returns the faults of the statements of a sequence after the first
   pub reported_statements : {T : Type 0} → Facts T → Tree ℕ (items further_statement) → List Fault
   reported_statements facts end = []
   reported_statements facts (more (then_statement a) rest) =
       reported_statement facts a ++ reported_statements facts rest
 
-  -- the faults of each ELSIF part: of its condition, and then of its statements
+  -- returns the faults of the ELSIF parts: for each its condition's, and then its statements'
   pub reported_elsifs : {T : Type 0} → Facts T → Tree ℕ (items elsif_part) → List Fault
   reported_elsifs facts end = []
   reported_elsifs facts (more (elsif_branch e statements) rest) =
       reported_condition facts e
       ++ (reported_sequence facts statements ++ reported_elsifs facts rest)
 
-  -- the faults of the ELSE part, if there is one
+  -- returns the faults of the ELSE part; none if it is missing
   pub reported_else : {T : Type 0} → Facts T → Tree ℕ (maybe else_part) → List Fault
   reported_else facts none = []
   reported_else facts (one (else_branch statements)) = reported_sequence facts statements

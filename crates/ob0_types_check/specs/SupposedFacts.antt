@@ -1,4 +1,4 @@
--- The types and declarations of the reporting walk's code, as facts of the definitions.
+-- The state of the code's reporting walk as a state of the definitions.
 -- Rule: none; for contracts: what the reporting walk knows.
 use Rattle.std.specs.Prelude.{◌≡◌, ℕ, ◌-◌, ◌^◌, Bool, List, map, ◌++◌, min, slice_get, slice_index_or, slice_set, string_bytes, Option, Some, None, option_and_then, option_map}
 use Rattle.ob0_scan.specs.declared.fault.Fault.{Fault}
@@ -27,19 +27,19 @@ use Rattle.ob0_types_check.specs.DeclarationFaults.{KnownHeading}
 use Rattle.ob0_types_check.specs.SoFar.{MadeType, Size, SoFar, FieldSoFar, of_elements, of_fields, same_type}
 use Rattle.ob0_types_check.specs.WrittenTypeFaults.{Gathered}
 
--- the type of an array's elements; unknown if there is no array
+-- returns the type of an array's elements; unknown if there is no array
 abbrev pub elements_of : Option TypeEntry → TypeId
 elements_of None = type.Unknown
 elements_of (Some (made.Array a)) = a.element
 elements_of (Some (made.Record r)) = type.Unknown
 
--- the type of a record's field, if there is a record
+-- returns the type of a record's field; None if there is no record or no such field
 abbrev pub field_of : Option TypeEntry → Name → Option TypeId
 field_of None x = None
 field_of (Some (made.Array a)) x = None
 field_of (Some (made.Record r)) x = first_field_type r.fields x
 
--- the form of a type of the code
+-- returns the form of a type of the code
 abbrev pub form_in : List TypeEntry → TypeId → Form TypeId
 form_in composites type.Integer = a_scalar
 form_in composites type.Boolean = a_scalar
@@ -47,7 +47,7 @@ form_in composites (type.Array i) = an_array (elements_of (slice_get composites 
 form_in composites (type.Record i) = a_record (field_of (slice_get composites i))
 form_in composites type.Unknown = unknown_form
 
--- the types of the code
+-- returns the types of the code as a representation of types
 abbrev pub known_types : List TypeEntry → Types TypeId
 known_types composites =
     record {
@@ -58,24 +58,24 @@ known_types composites =
       form = form_in composites;
     }
 
--- a parameter of the code
+-- returns a formal parameter of the code as one of the definitions
 abbrev pub formal_of : formal.Formal → KnownFormal TypeId
 formal_of f = record { by_place = f.by_place; of = f.of }
 
--- the meaning of a declaration of the code
+-- returns the meaning of a declaration of the code as one of the definitions
 abbrev pub known_meaning : meaning.Meaning → Meaning TypeId
 known_meaning (declared.Named t) = a_type t
 known_meaning (declared.Constant v) = a_constant (option_map scalar_value v)
 known_meaning (declared.Variable t) = a_variable t
 known_meaning (declared.Procedure fs) = a_procedure (map formal_of fs.items)
 
--- the meaning of the name at a token
+-- returns the meaning of the name at a token; None if it is unbound or its declaration isn't known yet
 abbrev pub supposed_meaning_at : Supposed → ℕ → Option meaning.Meaning
 supposed_meaning_at s token =
     option_and_then (λ k. slice_index_or s.meanings.items k None)
     (ordinal_in s.resolved.now.ordinals token)
 
--- the facts of the code at a place
+-- returns the facts at a place according to the state of the code
 abbrev pub facts_in : Supposed → Bool → Facts TypeId
 facts_in s only_constants = record {
   source = s.resolved.now.module_read.source;
@@ -84,7 +84,7 @@ facts_in s only_constants = record {
   only_constants = only_constants;
 }
 
--- an operand of the code
+-- returns an operand of the code as one of the definitions
 abbrev pub operand_of : operand.Operand → Operand TypeId
 operand_of o =
     record {
@@ -95,15 +95,15 @@ operand_of o =
       last = o.last;
     }
 
--- a size of the code
+-- returns a size of the code as one of the definitions
 abbrev pub size_of : code_size.Size → Size
 size_of z = record { scalars = z.scalars; depth = z.depth }
 
--- the fields of the code
+-- returns the fields of the code as fields of the definitions
 abbrev pub fields_in : List Field → List FieldSoFar
 fields_in fields = map (λ f. record { name = string_bytes f.name; of = f.of }) fields
 
--- an array or record of the code
+-- returns an array or record of the code as one of the definitions
 abbrev pub made_type_of : TypeEntry → MadeType
 made_type_of (made.Array a) =
     record {
@@ -118,7 +118,7 @@ made_type_of (made.Record r) =
       size = record { scalars = r.scalars; depth = r.depth };
     }
 
--- the state of the code
+-- returns the state of the code as one of the definitions
 abbrev pub so_far_in : Supposed → SoFar
 so_far_in s = record {
   source = s.resolved.now.module_read.source;
@@ -127,29 +127,28 @@ so_far_in s = record {
   made = map made_type_of s.composites.items;
 }
 
--- a heading of the code
+-- returns the parameters of a heading and the state after them, from values of the code
 abbrev pub heading_in : Supposed → List formal.Formal → KnownHeading
 heading_in s formals = record { formals = map formal_of formals; following = so_far_in s }
 
--- a size with both numbers cut to 64 bits, because the code's additions saturate
+-- caps both numbers of a size at 2^64 - 1, because the code's operations saturate
 abbrev pub counted : Size → Size
 counted z = record { scalars = min z.scalars (2 ^ 64 - 1); depth = min z.depth (2 ^ 64 - 1) }
 
--- states that the code has gathered these fields of a record
+-- holds if the code has gathered the fields `g` of a record, and its state is the state after them
 pub record IsGathered (g : Gathered) (s : Supposed) (now : gathering.Gathered) : Type 0 where
   pub fields : fields_in now.fields.items ≡ g.fields
   pub size : size_of now.size ≡ counted g.size
   pub following : so_far_in s ≡ g.following
 
--- states that the code has gathered a record's fields, and reported their faults after those from
--- before
+-- holds if the code has gathered a record's fields, and has appended their faults to the faults `before`
 pub record Gathers
     (before after : List Fault) (s : Supposed) (gathered : gathering.Gathered)
     (t : Reported Gathered) : Type 0 where
   pub reported : after ≡ before ++ t.faults
   pub now : IsGathered t.known s gathered
 
--- the object of a declaration, in the code's table; a faulty constant has no value
+-- returns the object of a declaration in the code's table; a faulty constant has no value
 abbrev pub table_object : meaning.Meaning → object.Object
 table_object (declared.Named t) = kind.Named t
 table_object (declared.Constant (Some v)) = kind.Constant v
@@ -157,7 +156,7 @@ table_object (declared.Constant None) = kind.FaultyConstant
 table_object (declared.Variable t) = kind.Variable t
 table_object (declared.Procedure fs) = kind.Procedure fs
 
--- enters the standard procedures at their ordinals
+-- replaces the objects at the ordinals of Read, Write and WriteLn by the standard procedures
 abbrev pub with_standards : List (Option object.Object) → List (Option object.Object)
 with_standards objects =
     slice_set
@@ -165,7 +164,7 @@ with_standards objects =
     (Some (kind.Standard standards.Write)))
     6 (Some (kind.Standard standards.WriteLn))
 
--- the table that the code makes
+-- returns the table that the code makes from its state
 abbrev pub table_in : Supposed → Tables
 table_in s =
     record {

@@ -1,5 +1,4 @@
--- Laws of well-typed modules and well-typed parts of modules: no fault of types is reported. N is
--- the type of names.
+-- Laws about well-typed modules and well-typed parts of modules: no fault of types is reported. N is the type of names.
 -- Rule: docs/LANGUAGE.md, Types 8; laws of reported faults.
 use Rattle.std.specs.Prelude.{◌≡◌, ℕ, Bool, true, false, [], List, Option, Some, None, option_and_then, is_some, slice_get}
 use Rattle.std.specs.List.{filter}
@@ -20,7 +19,7 @@ use Rattle.ob0_types_check.specs.StatementFaults.{reported_sequence, reported_ta
 use Rattle.ob0_types_check.specs.TypeFaults.{length_of, reported_constant}
 use Rattle.ob0_types_check.specs.Agreement.{Agrees, shape_in}
 
--- states that an expression with a type has no fault
+-- No fault is reported for an expression that has a type.
 abbrev pub NoFaultInExpressions : Type 0 → Type 0
 NoFaultInExpressions N =
     (p : SoFar) (only_constants : Bool) (shapes : List Shape) (label : ℕ → N) (meaning : Typed N)
@@ -30,7 +29,7 @@ NoFaultInExpressions N =
     ≡ true
     → (reported_expression (facts_at p only_constants) e).faults ≡ []
 
--- states that a constant expression with a value has no fault
+-- No fault is reported for a constant expression that has a value.
 abbrev pub NoFaultInConstants : Type 0 → Type 0
 NoFaultInConstants N =
     (p : SoFar) (shapes : List Shape) (label : ℕ → N) (meaning : Typed N) (e : Tree ℕ expression)
@@ -38,7 +37,7 @@ NoFaultInConstants N =
     → is_some (constant_value meaning (mapped label (value_at p.source) e)) ≡ true
     → (reported_constant (facts_at p true) e).faults ≡ []
 
--- states that a valid array length has no fault
+-- No fault is reported for a valid array length.
 abbrev pub NoFaultInLengths : Type 0 → Type 0
 NoFaultInLengths N =
     (p : SoFar) (shapes : List Shape) (label : ℕ → N) (meaning : Typed N) (e : Tree ℕ expression)
@@ -48,8 +47,7 @@ NoFaultInLengths N =
     ≡ true
     → (reported_expression (facts_at p true) e >>= length_of (facts_at p false)).faults ≡ []
 
--- states that an assignment's target has no fault if it is a variable or parameter with its
--- selectors
+-- No fault is reported for an assignment's target that is a variable or parameter with its selectors.
 abbrev pub NoFaultInTargets : Type 0 → Type 0
 NoFaultInTargets N =
     (p : SoFar) (shapes : List Shape) (label : ℕ → N) (meaning : Typed N) (x : ℕ)
@@ -58,20 +56,20 @@ NoFaultInTargets N =
     → is_some (variable_type meaning (Some (label x, mapped label (value_at p.source) path))) ≡ true
     → (reported_target (facts_at p false) x path).faults ≡ []
 
--- the ordinal of the ARRAY or RECORD that makes a type
+-- returns the ordinal of the word ARRAY or RECORD that makes a type; None for a scalar type
 abbrev pub constructor_of : Shape → Option ℕ
 constructor_of integer_shape = None
 constructor_of boolean_shape = None
 constructor_of (array_shape k n s) = Some k
 constructor_of (record_shape k fs) = Some k
 
--- states that each ARRAY and RECORD makes one type
+-- holds if no two shapes in the list are made by the same word ARRAY or RECORD
 abbrev pub EachOnce : List Shape → Type 0
 EachOnce shapes =
     (i j k : ℕ) (s t : Shape) → slice_get shapes i ≡ Some s → slice_get shapes j ≡ Some t
     → constructor_of s ≡ Some k → constructor_of t ≡ Some k → i ≡ j
 
--- states that well-typed statements have no fault
+-- No fault is reported for well-typed statements, if each word ARRAY and RECORD makes one type.
 abbrev pub NoFaultInStatements : Type 0 → Type 0
 NoFaultInStatements N =
     (p : SoFar) (shapes : List Shape) (label : ℕ → N) (meaning : Typed N)
@@ -81,7 +79,7 @@ NoFaultInStatements N =
     → sequence_fits meaning (mapped label (value_at p.source) statements) ≡ true
     → reported_sequence (facts_at p false) statements ≡ []
 
--- states that every name of a well-typed module is bound
+-- Every name of a well-typed module is bound.
 abbrev pub NamesBound : Type 0
 NamesBound =
     (r : Resolution)
@@ -89,7 +87,7 @@ NamesBound =
     → fits_over as_names (named_tree_of r.module_read) ≡ true
     → filter is_of_occurrences r.faults ≡ []
 
--- states that a well-typed module has no undeclared name and no fault of types
+-- No undeclared name and no fault of types is reported for a well-typed module.
 abbrev pub NoFaultInModules : Type 0
 NoFaultInModules =
     (r : Resolution)

@@ -1,5 +1,5 @@
--- The faults of written types, in the order in which they are reported: the faults of the parts
--- from left to right, then `TypeTooLarge` for the whole.
+-- The faults of written types, in the order in which they are reported. The faults of the parts come first, from left
+-- to right, and then `TypeTooLarge` for the whole type.
 -- Rule: docs/LANGUAGE.md, Faults of scopes and types 2, 4, 10, `TypeTooLarge`.
 use Rattle.std.specs.Prelude.{ℕ, suc, ◌+◌, ◌*◌, max, true, false, List, [], ◌∷◌, ◌++◌, length, Option, Some, None}
 use Rattle.ob0_language_names.specs.Parts.{names_listed}
@@ -13,18 +13,17 @@ use Rattle.ob0_types_check.specs.Operations.{right, token_before, ◌>>=◌}
 use Rattle.ob0_types_check.specs.SoFar.{Size, SoFar, TypedAfter, FieldSoFar, facts_at, make, no_scalar, of_elements, of_fields, size_at}
 use Rattle.ob0_types_check.specs.TypeFaults.{length_of, type_named}
 
--- the size of an array, from the size of its elements
+-- returns the size of an array of `n` elements that each have this size
 abbrev pub array_size : ℕ → Size → Size
 array_size n z = record { scalars = z.scalars * n; depth = z.depth + 1 }
 
--- The ordinal of the next word ARRAY or RECORD. Each makes one type, and inner types are made
--- first. So, if nothing is reported, it is the number of types made before plus the number of words
--- around it.
+-- Returns the ordinal of the next word ARRAY or RECORD. Each word makes one type, and inner types are made first. So,
+-- if nothing is reported, the ordinal is the number of types made before plus the number of words around it.
 abbrev pub ordinal_here : ℕ → SoFar → ℕ
 ordinal_here around p = length p.made + around
 
--- The type of an array. If the length has a fault, the array is unknown as a whole, although the
--- type of its elements has been checked. The word ARRAY is before the length.
+-- Makes an array type. If the length has a fault (None), the array is unknown as a whole, although the type of its
+-- elements has been checked. The word ARRAY is before the length.
 abbrev pub array_made : ℕ → Operand TypeId → Option ℕ → TypedAfter → Reported TypedAfter
 array_made ordinal o None element =
     right (record { of = type.Unknown; following = element.following })
@@ -32,17 +31,17 @@ array_made ordinal o (Some n) element =
     make element.following (token_before o.first) ordinal (of_elements n element.of)
     (array_size n (size_at element.following.made element.of))
 
--- the fields of a record so far, their size, and the state after them
+-- the fields of a record so far, their total size, and the state after them
 pub record Gathered : Type 0 where
   pub fields : List FieldSoFar
   pub size : Size
   pub following : SoFar
 
--- no fields yet
+-- returns the state with no fields yet
 abbrev pub nothing_gathered : SoFar → Gathered
 nothing_gathered p = record { fields = []; size = no_scalar; following = p }
 
--- the size of parts side by side
+-- returns the size of two parts next to each other
 abbrev pub beside : Size → Size → Size
 beside z w = record { scalars = z.scalars + w.scalars; depth = max z.depth w.depth }
 
@@ -55,45 +54,45 @@ with_name t g token =
       following = g.following;
     }
 
--- adds the fields of one group
+-- adds a field with this type for each of these names
 abbrev pub with_field_names : TypeId → Gathered → List ℕ → Gathered
 with_field_names t g [] = g
 with_field_names t g (x ∷ xs) = with_field_names t (with_name t g x) xs
 
--- adds the fields of one type, after its text
+-- adds the fields of one group, with the type that was read
 abbrev pub gathered_after : Gathered → List ℕ → TypedAfter → Gathered
 gathered_after g xs t =
     with_field_names t.of (record { fields = g.fields; size = g.size; following = t.following }) xs
 
--- the size of a record, which has at least one scalar
+-- returns the size of a record, which has at least one scalar
 abbrev pub record_size : Size → Size
 record_size z = record { scalars = max z.scalars 1; depth = z.depth + 1 }
 
--- the first name of a list
+-- returns the first name of a list
 abbrev pub first_name : Tree ℕ names → ℕ
 first_name (listed x rest) = x
 
--- the token before a group of fields
+-- returns the token before a group of fields; `following` is the token before the next group
 abbrev pub word_before : Tree ℕ fields → ℕ → ℕ
 word_before (some_fields ns t) following = token_before (first_name ns)
 word_before no_fields following = token_before following
 
--- The word RECORD. It precedes the first field's name and one semicolon for each group without
--- fields before that name. For a record without fields the result is 0, which is never reported:
--- such a record is never too large.
+-- Returns the token of the word RECORD. It precedes the first field's name and one semicolon for each group without
+-- fields before that name. For a record without fields the result is 0. This is never reported, because such a record
+-- is never too large.
 abbrev pub record_word : Tree ℕ (items further_fields) → ℕ
 record_word end = 0
 record_word (more (then_fields g) rest) = word_before g (record_word rest)
 
--- makes a new record, or reports `TypeTooLarge`
+-- makes a new record type, or reports `TypeTooLarge`
 abbrev pub record_made : ℕ → ℕ → Gathered → Reported TypedAfter
 record_made word ordinal g = make g.following word ordinal (of_fields g.fields) (record_size g.size)
 
--- the faults of a type that is inside `around` words ARRAY and RECORD
+-- Returns the faults of a type that is inside `around` words ARRAY and RECORD.
 unfoldable mutual
   unfolding reported_expression
 
-  -- the faults of a name, or of an array or a record after its parts
+  -- returns the faults of a type, and the type: a name, or an array or a record after its parts
   pub reported_type : ℕ → SoFar → Tree ℕ written_type → Reported TypedAfter
   reported_type around p (named_type x) = do
     t ← type_named (facts_at p false) x
@@ -108,21 +107,21 @@ unfoldable mutual
     all ← reported_groups (suc around) first rest
     record_made (word_before g (record_word rest)) (ordinal_here around p) all
 
-  -- the faults of a group of fields, which is added to the earlier ones
+  -- returns the faults of a group of fields, and the earlier fields with the group's fields added
   pub reported_fields : ℕ → Gathered → Tree ℕ fields → Reported Gathered
   reported_fields around so_far no_fields = right so_far
   reported_fields around so_far (some_fields ns t) = do
     u ← reported_type around so_far.following t
     right (gathered_after so_far (names_listed ns) u)
 
-  -- the faults of further groups, added one after the other
+  -- returns the faults of further groups of fields, and the earlier fields with theirs added
   pub reported_groups : ℕ → Gathered → Tree ℕ (items further_fields) → Reported Gathered
   reported_groups around so_far end = right so_far
   reported_groups around so_far (more (then_fields g) rest) = do
     next ← reported_fields around so_far g
     reported_groups around next rest
 
--- the faults of one more group
+-- returns the faults of one more group of fields, and the earlier fields with its fields added
 unfoldable pub reported_group : ℕ → Gathered → Tree ℕ (item further_fields) → Reported Gathered
 unfolding reported_type
 reported_group around so_far (then_fields g) = reported_fields around so_far g

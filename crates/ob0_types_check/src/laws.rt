@@ -1,4 +1,4 @@
-//! The laws. Each function does nothing; its contract is the law.
+//! The laws that contracts cite. Each function does nothing; its contract is the law.
 
 ghost use Rattle.ob0_types_check.specs.ModuleLaws.{DeclarationsKnown, ModulesFit};
 ghost use Rattle.ob0_types_check.specs.ReportLaws.{ConstantsFit, ExpressionsFit, LengthsFit, StatementsFit, TypesOfTables};
@@ -6,79 +6,80 @@ ghost use Rattle.ob0_types_check.specs.SomeBodies.{SomeBodiesReported};
 ghost use Rattle.ob0_types_check.specs.WellTypedLaws.{NamesBound, NoFaultInConstants, NoFaultInExpressions, NoFaultInLengths, NoFaultInModules, NoFaultInStatements, NoFaultInTargets};
 ghost use Rattle.ob0_language_names.specs.Names.{Name};
 
-/// States that if nothing is reported for an expression, its reported type and value are right.
+/// Proves that if no fault is reported for an expression, its reported type and value are right.
 pub fn expressions_fit()
     ensures { ExpressionsFit Name }
 {}
 
-/// States that if nothing is reported for a constant's right side, its reported value is right.
+/// Proves that if no fault is reported for a constant's right side, its reported value is right.
 pub fn constants_fit()
     ensures { ConstantsFit Name }
 {}
 
-/// States that if nothing is reported for an array's length, the reported length is right.
+/// Proves that if no fault is reported for an array's length, the reported length is right.
 pub fn lengths_fit()
     ensures { LengthsFit Name }
 {}
 
-/// States that statements fit if nothing is reported for them.
+/// Proves that statements fit if no fault is reported for them.
 pub fn statements_fit()
     ensures { StatementsFit Name }
 {}
 
-/// States that types read from the table of arrays and records agree with their shapes.
+/// Proves that if the table of arrays and records agrees with their shapes, each type agrees with its shape.
 pub fn types_of_tables()
     ensures { TypesOfTables }
 {}
 
-/// States that a module fits if nothing is reported for it.
+/// Proves that a module fits if no fault of types and no undeclared name is reported for it.
 pub fn modules_fit()
     ensures { ModulesFit }
 {}
 
-/// States that if nothing is reported for a module, the walk knows what each declaration is.
+/// Proves that if no fault of types and no undeclared name is reported for a module, the walk has found the meaning of
+/// each declaration.
 pub fn declarations_known()
     ensures { DeclarationsKnown }
 {}
 
-/// States that an expression that has a type has no reported fault.
+/// Proves that no fault is reported for an expression that has a type.
 pub fn no_fault_in_expressions()
     ensures { NoFaultInExpressions Name }
 {}
 
-/// States that a constant expression that has a value has no reported fault.
+/// Proves that no fault is reported for a constant expression that has a value.
 pub fn no_fault_in_constants()
     ensures { NoFaultInConstants Name }
 {}
 
-/// States that a valid array length has no reported fault.
+/// Proves that no fault is reported for a valid array length.
 pub fn no_fault_in_lengths()
     ensures { NoFaultInLengths Name }
 {}
 
-/// States that the target of an assignment has no reported fault if it is a variable or parameter
-/// with its selectors.
+/// Proves that no fault is reported for the target of an assignment if it is a variable or parameter with its
+/// selectors.
 pub fn no_fault_in_targets()
     ensures { NoFaultInTargets Name }
 {}
 
-/// States that well-typed statements have no reported fault.
+/// Proves that no fault is reported for well-typed statements.
 pub fn no_fault_in_statements()
     ensures { NoFaultInStatements Name }
 {}
 
-/// States that every name of a well-typed module is bound.
+/// Proves that every name of a well-typed module is bound.
 pub fn names_bound()
     ensures { NamesBound }
 {}
 
-/// States that a well-typed module has no fault of types and no undeclared name.
+/// Proves that no fault of types and no undeclared name is reported for a well-typed module.
 pub fn no_fault_in_modules()
     ensures { NoFaultInModules }
 {}
 
-/// States that if the tokens of a module changed in some bodies only, any other body that had no
-/// faults still has none.
+/// Proves that walking only some bodies gives the same report as walking all of them. The walked bodies must include
+/// every body whose tokens changed and every body that had a fault before the change.
 pub fn some_bodies_reported()
     ensures { SomeBodiesReported }
 {}

@@ -1,19 +1,17 @@
-//! Reports the type errors of a module in one walk. If there is none, the walk also knows what each
-//! declaration is.
+//! Reports the type errors of a module in one walk. If there are none, the walk has also found the meaning of each
+//! declaration.
 //!
-//! An expression or type with a fault has an unknown type, which causes no second fault.
+//! An expression or type with a fault has an unknown type. An unknown type causes no further fault.
 //!
-//! No other code decides whether a module fits. The laws connect this walk with the definitions: a
-//! module that doesn't fit has a fault (`modules_fit`), and a well-typed module has none
-//! (`no_fault_in_modules`). After a module with no fault the walk knows every declaration
-//! (`declarations_known`).
+//! No other code decides whether a module fits. The laws connect this walk with the definitions. A module that doesn't
+//! fit has a fault (`modules_fit`), and a well-typed module has none (`no_fault_in_modules`). If a module has no
+//! faults, the walk has found every declaration (`declarations_known`).
 //!
-//! The definitions give the faults of each production: in order, with codes and spans, and with the
-//! result of the part. A `Reported` is such a result with its faults. Its `>>=` puts the faults of
-//! one step before the faults of the next. Statements have faults but no result. A function that
-//! returns a value has one clause, `ReportsAfter before after x t`. An operand carries its value if
-//! it is constant. So one walk over an expression finds its type, its value, whether it can be a
-//! place, and its first and last token.
+//! The definitions give the faults of each production, in order, with codes and spans. They also give the result of the
+//! production, for example the type of an expression. A `Reported` is such a result with its faults. Its `>>=` puts the
+//! faults of one step before the faults of the next. Statements have faults but no result. A function that returns a
+//! value has one clause, `ReportsAfter before after x t`. An operand carries its value if it is constant. So one walk
+//! over an expression finds its type, its value, whether it can be a place, and its first and last token.
 //!
 //! The definitions work over any representation of types that has an unknown type (`Types`). One is
 //! the code's `TypeId` with its table (`known_types`). Another is `Option Shape`, with None for
@@ -72,19 +70,18 @@ use ob0_scope_table::Resolved;
 use ob0_types_table::DeclarationTable;
 use std::alloc::{AllocError, Global};
 
-/// The faults of a module, and its declarations if there is no fault.
+/// The report of a module: its faults, or its declarations if there is no fault.
 #[derive(Drop)]
 pub struct Report {
     /// The undeclared names in text order, and then the faults of types.
     pub faults: Vec<Fault>,
-    /// The declarations, or None if there is a fault.
+    /// The table of declarations, or None if there is a fault.
     pub known: Option<DeclarationTable>,
-    /// The bodies in which a fault of types is reported, by the tokens of their closing names, in
-    /// text order.
+    /// The closing names of the bodies in which a fault of types is reported, as token indexes in text order.
     pub faulty: Vec<usize>,
 }
 
-/// Which bodies to walk: all of them, or only those with these closing names.
+/// The bodies to walk: all bodies, or only the bodies with these closing names.
 #[derive(Clone, Copy)]
 struct Wanted<'b> {
     every: bool,
@@ -99,9 +96,8 @@ impl<'b> Wanted<'b> {
     }
 }
 
-/// Returns the undeclared names of a module in text order and then its faults of types; if there is
-/// none, also its declarations. Duplicate declarations and wrong closing names aren't reported
-/// here.
+/// Returns the undeclared names of a module in text order, then its faults of types. If there are none, the report has
+/// the declarations. Duplicate declarations and wrong closing names aren't reported here.
 pub fn report_faults<'t>(alloc: Global, resolved: &'t Resolved<'t>) -> Result<Report, AllocError>
     ensures { IfOk result (IsReportOf resolved.now) }
 {
@@ -125,7 +121,7 @@ pub fn report_bodies<'t>(
     ensures { IfOk result (IsReportOf resolved.now) }
 {
     some_bodies_reported();
-    // The proof needs the contract of this call.
+    // The contract of this call gives the proof the invariant of the module.
     let _module = resolved.module();
     let these = Wanted {
         every: false,
@@ -134,8 +130,8 @@ pub fn report_bodies<'t>(
     report_wanted(alloc, resolved, &these)
 }
 
-/// Returns the same report as `report_faults`, but walks only the declarations and the statements
-/// of the block with this closing name. The module without these statements must fit.
+/// Returns the same report as `report_faults`, but walks only the declarations and the statements of the block with
+/// this closing name. The module must fit without these statements.
 pub fn report_body<'t>(
     alloc: Global,
     resolved: &'t Resolved<'t>,
@@ -144,7 +140,7 @@ pub fn report_body<'t>(
     requires { FitsWithout resolved.now closing }
     ensures { IfOk result (IsReportOf resolved.now) }
 {
-    // The proof needs the contract of this call.
+    // The contract of this call gives the proof the invariant of the module.
     let _module = resolved.module();
     let bodies = [closing];
     let only = Wanted {
@@ -154,8 +150,8 @@ pub fn report_body<'t>(
     report_wanted(alloc, resolved, &only)
 }
 
-/// Returns the report of a module in which only the declarations and the wanted bodies can have
-/// faults of types.
+/// Returns the report of a module, walking only the declarations and the wanted bodies. No other body may have a fault
+/// of types.
 fn report_wanted<'t>(
     alloc: Global,
     resolved: &'t Resolved<'t>,
@@ -171,7 +167,7 @@ fn report_wanted<'t>(
     reporter.into_report(resolved, faulty)
 }
 
-/// Returns the declarations and types as a table.
+/// Makes the table of declarations and types from the final state of the walk.
 fn known_of<'t>(alloc: Global, supposed: Supposed<'t>) -> Result<DeclarationTable, AllocError>
     requires { AreEntriesInOrder [] supposed.composites.items }
     ensures { IfOk result (λ t. t ≡ table_in supposed.entry) }
@@ -186,7 +182,7 @@ fn known_of<'t>(alloc: Global, supposed: Supposed<'t>) -> Result<DeclarationTabl
     Ok(DeclarationTable::new(composites, objects))
 }
 
-/// The state of the walk: the declarations and types so far, and the faults so far.
+/// The state of the walk: the declarations and types found so far, and the faults reported so far.
 #[derive(Drop)]
 struct Reporter<'t> {
     alloc: Global,
@@ -214,7 +210,7 @@ impl<'t> Reporter<'t> {
         })
     }
 
-    /// Returns the report at the end of the walk.
+    /// Returns the report when the walk has ended. The table of declarations is made only if there is no fault.
     fn into_report(
         self,
         resolved: &'t Resolved<'t>,
@@ -224,7 +220,7 @@ impl<'t> Reporter<'t> {
         ensures { IfOk result (IsReportOf resolved.now) }
     {
         declarations_known();
-        // The proof needs the contract of this call.
+        // The contract of this call gives the proof the invariant of the module.
         let _module = resolved.module();
         let Reporter {
             alloc,
@@ -248,7 +244,7 @@ impl<'t> Reporter<'t> {
     }
 }
 
-/// Returns the undeclared names, in text order.
+/// Returns the undeclared names among the faults of scopes, in text order.
 fn unbound_names(alloc: Global, resolved: &Resolved) -> Result<Vec<Fault>, AllocError>
     ensures { IfOk result (λ faults. faults.items ≡ filter is_of_occurrences resolved.now.faults) }
 {
@@ -261,7 +257,7 @@ fn unbound_names(alloc: Global, resolved: &Resolved) -> Result<Vec<Fault>, Alloc
     Ok(faults)
 }
 
-/// Appends an unknown meaning for each of these declarations.
+/// Appends one unknown meaning (None) for each of these declarations.
 fn add_unknown(
     meanings: &mut Vec<Option<Meaning>>,
     declarations: &[usize],

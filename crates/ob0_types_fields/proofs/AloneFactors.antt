@@ -1,5 +1,4 @@
--- An expression with a single factor selects the same fields as the factor; a list of length 0 is
--- empty.
+-- An expression with a single factor selects the same fields as the factor. A list of length 0 is empty.
 use Rattle.std.proofs.Common.{◌≡◌, ℕ, ◌==◌, ◌++◌, Bool, true, List, [], ◌∷◌, length, None, refl, sym, ◌∙◌, append-nil, arith, eqb-true}
 use Rattle.ob0_tree.specs.Tree.{Tree, compares, end, factor, none, product, sum}
 use Rattle.ob0_language_types.specs.Expressions.{Meanings}
@@ -7,7 +6,7 @@ use Rattle.ob0_language_types.specs.WellTyped.{Signature}
 use Rattle.ob0_types_fields.specs.Owned.{marked_tree}
 use Rattle.ob0_language_values.specs.Values.{Shape}
 
--- a list of length 0
+-- A list is empty if its length is 0, and not empty otherwise.
 pub is_nothing : {A : Type 0} (xs : List A) (n : ℕ) (b : Bool) → n ≡ length xs → b ≡ (n == 0) → b ≡ true → xs ≡ []
 is_nothing [] n b long e h = refl
 is_nothing (x ∷ xs) n b long e h = let none : n ≡ 0 = eqb-true n 0 (sym e ∙ h) in absurd (omega (arith, long, none))

@@ -1,4 +1,4 @@
--- A field renamed at its tokens.
+-- Renaming a field gives the tree with the new name at the field's tokens.
 use Rattle.std.proofs.Common.{◌≡◌, ℕ, ◌&&◌, if◌then◌else◌, ◌==◌, Some, None, Option, refl, ◌∙◌, sym}
 use Rattle.ob0_tree.specs.Tree.{mapped}
 use Rattle.ob0_tree.specs.Parsed.{named_tree_of, tree_of}
@@ -9,7 +9,7 @@ use Rattle.ob0_language_fields.specs.Fields.{refielded}
 use Rattle.ob0_types_fields.specs.Owners.{RenamedByToken, of_records}
 use Rattle.ob0_language_fields.specs.Renaming.{one_renamed}
 
--- the spelling of fields whose record is known, if one field is renamed
+-- returns the spelling of a field of the record `k` after one field was renamed
 abbrev in_record : ℕ → Name → Name → ℕ → Name → Name
 in_record r f new k x = if (k == r) && same_name x f then new else x
 

@@ -1,4 +1,4 @@
--- The walk that searches for an ARRAY or RECORD by its ordinal.
+-- The walk over declarations finds the ARRAY or RECORD with some ordinal.
 use Rattle.std.proofs.Common.{◌≡◌, ℕ, zero, suc, ◌+◌, ◌-◌, ◌==◌, ◌<◌, ◌≤◌, Bool, true, false, List, [], ◌∷◌, ◌++◌, length, get_or, drop, Option, None, if◌then◌else◌, refl, sym, ap, ◌∙◌, arith, eqb-true}
 use Rattle.std.proofs.lemmas.List.{drop_all, drop_more}
 use Rattle.ob0_tree.specs.declared.tree.Fields.{Fields}
@@ -18,7 +18,7 @@ pub found_stays : (t : Option Shape) (xs : List (Option Shape)) → after_all (i
 found_stays t [] = refl
 found_stays t (x ∷ xs) = found_stays t xs
 
--- the search finds the type at its position
+-- The search for the word with ordinal `n` finds the type at index `n` of the list.
 pub found_at : (n : ℕ) (xs : List (Option Shape)) → found_type (after_all (is_after n) xs) ≡ get_or xs n None
 found_at n [] = refl
 found_at zero (x ∷ xs) = ap found_type (found_stays x xs)
@@ -31,8 +31,7 @@ found_at (suc n) (x ∷ xs) = go (suc n == 0) refl (found_at n xs)
         let less : suc n - 1 ≡ n = omega arith in
         ap (λ k. found_type (after_all (is_after k) xs)) less ∙ later
 
--- states that the search after the visited items, continued with the remaining ones, is the search
--- after all
+-- holds if the search after the visited items, continued with the remaining items, is the search after all items
 pub record OverItems {A : Type 0} {i : Item} (f : A → Tree ℕ (item i)) (m : Meanings ℕ Shape Signature) (t : Option Shape) (start : SearchState) (xs : List A) (done : ℕ) (now : SearchState) : Type 0 where
   pub so_far : after_all now (constructed m t (items_of f (drop done xs))) ≡ after_all start (constructed m t (items_of f xs))
 

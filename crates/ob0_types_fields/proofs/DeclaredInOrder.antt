@@ -20,7 +20,7 @@ use Rattle.ob0_language_types.proofs.Literals.{some_inverse}
 use Rattle.ob0_language_types.proofs.TypedElsewhere.{then_some}
 use Rattle.ob0_language_types.proofs.TypesByOrdinal.{label_typed, typed_names}
 
--- states that the bindings have ordinals below hi and not below lo, each less than the one before
+-- holds if the bindings have ordinals below `hi` and not below `lo`, each less than the one before
 abbrev pub Descends : ℕ → TypeEnvironment Label → ℕ → Type 0
 Descends hi [] lo = lo ≤ hi
 Descends hi (b ∷ env) lo = (i : ℕ) × (b.0 ≡ declared i) × (i < hi) × Descends i env lo
@@ -33,7 +33,8 @@ pub descends_join : (hi mid lo : ℕ) (xs ys : TypeEnvironment Label) → Descen
 descends_join hi mid lo [] ys a b = descends_higher mid hi lo ys a b
 descends_join hi mid lo (x ∷ xs) ys (i, e, less, a) b = (i, e, less, descends_join i mid lo xs ys a b)
 
--- an environment with bindings of the ordinals from k up to n put before it
+-- holds if `after` consists of bindings with ordinals from `k` up to `n`, without `n`, followed by the environment
+-- `env`
 pub record Grown (k n : ℕ) (env after : TypeEnvironment Label) : Type 0 where
   pub bound : TypeEnvironment Label
   pub is : after ≡ bound ++ env
@@ -96,21 +97,22 @@ variables_grow scope j k (more (declares_variable ns u) gs) env after h =
     (grown_then k m (after_names m (variable_names gs)) env (bind_names labels (a_variable found.0) env) after first
     (variables_grow (declare_names k xs scope) (j + constructors v) m gs (bind_names labels (a_variable found.0) env) after found.2))
 
--- parameters
+-- Binding parameters puts their bindings, with ordinals from `k` upwards, before the environment.
 pub parameters_grow : (k : ℕ) (ps : List (TypedParameter Name)) (env : TypeEnvironment Label) → Grown k (after_names k (typed_names ps)) env (bind_typed (label_typed k ps) env)
 parameters_grow k [] env = grown_nothing k env
 parameters_grow k (p ∷ ps) env =
     let o : Object Shape Signature = a_variable p.formal.shape in
     grown_then k (suc k) (after_names (suc k) (typed_names ps)) env ((declared k, o) ∷ env) (bind_typed (label_typed (suc k) ps) ((declared k, o) ∷ env)) (grown_one k o env) (parameters_grow (suc k) ps ((declared k, o) ∷ env))
 
--- a procedure's name and parameters
+-- Binding a procedure's name and parameters puts their bindings, with ordinals from `k` upwards, before the
+-- environment.
 pub heading_grows : (k : ℕ) (ps : List (TypedParameter Name)) (qs : List (TypedParameter Label)) (env : TypeEnvironment Label)
     → Grown k (after_names (suc k) (typed_names ps)) env (bind_typed (label_typed (suc k) ps) (heading (declared k) qs env))
 heading_grows k ps qs env =
     let mid : TypeEnvironment Label = heading (declared k) qs env in
     grown_then k (suc k) (after_names (suc k) (typed_names ps)) env mid (bind_typed (label_typed (suc k) ps) mid) (grown_one k _ env) (parameters_grow (suc k) ps mid)
 
--- a block's constants, types and variables
+-- Declaring a block's constants and types together is declaring its constants and then its types.
 firsts : (env : TypeEnvironment Label) (j : ℕ) (b : Tree Label block) (after : TypeEnvironment Label) → declare_first as_labels env j b ≡ Some after
     → (mid : TypeEnvironment Label) × (declare_constants as_labels env (block_constants b) ≡ Some mid) × (declare_types as_labels mid j (block_types b) ≡ Some after)
 unfolding declare_first
@@ -131,12 +133,12 @@ block_grows scope j k (has_body (declares cs ts vs ps) statements) env inner h =
     (ap (λ gs. declare_typed as_labels (after_types j b') gs two.0) (sym (variables-section as_names (as_label as_names) (variables_scope k b scope) kv vs)) ∙ two.2) in
     grown_then k kt (first_procedure k b) env one.0 inner c (grown_then kt kv (first_procedure k b) one.0 two.0 inner t v)
 
--- the object of a label, from the objects of ordinals
+-- returns the object of a label, given the objects of ordinals
 abbrev pub at_label : (ℕ → Option (Object Shape Signature)) → Label → Option (Object Shape Signature)
 at_label objects (declared k) = objects k
 at_label objects (as_written x) = None
 
--- states that each binding has the object of its ordinal
+-- holds if each binding has the object of its ordinal
 abbrev pub Right : (ℕ → Option (Object Shape Signature)) → TypeEnvironment Label → Type 0
 Right objects [] = Unit {0}
 Right objects (b ∷ env) = (at_label objects b.0 ≡ Some b.1) × Right objects env
@@ -156,7 +158,7 @@ right_older now before n (b ∷ env) (i, e, less, d) same h = (
   right_older now before i env d (λ d' below. same d' (omega (arith, below, less))) h.1,
 )
 
--- if each ordinal is bound once, each binding has the object of its ordinal
+-- If each ordinal is bound once, each binding has the object of its ordinal.
 pub bound_right : (n : ℕ) (env : TypeEnvironment Label) → Descends n env 0 → Right (object_bound env) env
 bound_right n [] d = tt
 bound_right n ((x, o) ∷ env) (i, e, less, d) =

@@ -1,5 +1,5 @@
--- The fields that a module declares. Its statements declare none; if all tokens move to other
--- places, the fields move with them.
+-- The statements of a module declare no fields. If all tokens move to other indexes, the declared fields move with
+-- them.
 use Rattle.std.proofs.Common.{◌≡◌, ℕ, zero, suc, ◌+◌, List, [], ◌∷◌, ◌++◌, map, Some, None, Option, refl, ap, ◌∙◌}
 use Rattle.std.specs.List.{AllByRecursion}
 use Rattle.ob0_tree.specs.Tree.{Tree, array_type, block, declares, declares_procedure, declares_type, declares_variable, end, fields, further_fields, further_name, further_section, has_body, is_module, item, items, listed, mapped, module_text, more, named_type, names, no_fields, procedure, record_type, section, some_fields, then_fields, then_name, then_section, type_name, value_section, variable, variable_section, written_type}
@@ -40,11 +40,11 @@ declared_without way (is_module x b closing) = block_declares way 0 b
 
 -- ---- at other places
 
--- a field's identifier at another place
+-- returns a field's identifier at another index
 abbrev pub field_placed : (ℕ → ℕ) → FieldName → FieldName
 field_placed at x = record { token = at x.token; owner = x.owner }
 
--- an identifier with its owner at another place
+-- returns an identifier with its owner at another index
 abbrev pub placed : (ℕ → ℕ) → ℕ × Option ℕ → ℕ × Option ℕ
 placed at x = (at x.0, x.1)
 
@@ -167,6 +167,6 @@ module _ {Q : Type 0} (m : Meanings ℕ Shape Q) (P : FieldName → Type 0) wher
         let q = parts P own (marked_block m j b) h in
         joined P own (declared_in_block j b) q.0 (block_among j b q.1)
 
-  -- a property of all fields holds for the declared ones
+  -- A property of all fields of a module holds for its declared fields.
   pub declared_among : (t : Tree ℕ module_text) → AllByRecursion P (marked_module m t) → AllByRecursion P (declared_in_block 0 (module_block t))
   declared_among (is_module x b closing) h = block_among 0 b h

@@ -1,5 +1,5 @@
--- The objects of the declarations in a well-typed module: each type, variable and parameter has the
--- type that its written type denotes there, and a procedure has the parameters of its heading.
+-- The objects of the declarations in a well-typed module are right. Each type, variable and parameter has the type that
+-- its written type denotes there. A procedure has the parameters of its heading.
 use Rattle.std.proofs.Common.{◌≡◌, ℕ, ◌+◌, true, List, [], ◌∷◌, ◌++◌, map, Some, None, Option, option_and_then, refl, sym, ap, ◌∙◌, subst, append_assoc}
 use Rattle.ob0_tree.specs.Parsed.{named_tree_of, tree_of}
 use Rattle.ob0_tree.specs.Places.{text_at}
@@ -36,7 +36,7 @@ module _ (r : Resolution) where
   abbrev pub meaning : Meanings ℕ Shape Signature
   meaning = token_objects objects r
 
-  -- states that a written type denotes this type at its place
+  -- holds if a written type denotes this type at its place
   pub record Denotes (u : Tree ℕ written_type) (s : Shape) : Type 0 where
     pub env : TypeEnvironment Label
     pub ordinal : ℕ
@@ -48,7 +48,7 @@ module _ (r : Resolution) where
   TypesAreTyped end = Unit {0}
   TypesAreTyped (more (declares_type x u) ds) = ((s : Shape) × (meaning.object_for x ≡ Some (a_type s)) × Denotes u s) × TypesAreTyped ds
 
-  -- the first of several names that are declared together
+  -- holds if the first of the names that are declared together in each group has the group's type
   abbrev pub VariablesAreTyped : Tree ℕ (items variable) → Type 0
   VariablesAreTyped end = Unit {0}
   VariablesAreTyped (more (declares_variable ns u) gs) = ((s : Shape) × (meaning.object_for (first_listed ns) ≡ Some (a_variable s)) × Denotes u s) × VariablesAreTyped gs
@@ -72,7 +72,8 @@ module _ (r : Resolution) where
     pub ProcedureIsTyped : Tree ℕ (item procedure) → Type 0
     ProcedureIsTyped (declares_procedure x fs b closing) = FormalsAreTyped (formal_sections fs) × BlockIsTyped b
 
-  -- ---- bindings put before an environment, and a property that follows if they are right
+  -- Holds if bindings are put before an environment, and a property follows if each of them has the object of its
+  -- ordinal.
 
   record Put (env after : TypeEnvironment Label) (P : Type 0) : Type 0 where
     pub bound : TypeEnvironment Label
@@ -96,7 +97,7 @@ module _ (r : Resolution) where
   put_weaker : (env after : TypeEnvironment Label) (P Q : Type 0) → (P → Q) → Put env after P → Put env after Q
   put_weaker env after P Q f p = record { bound = p.bound; is = p.is; says = λ right. f (p.says right) }
 
-  -- a token has the object that its label is bound to
+  -- A token has the object that its label is bound to.
   has_object : (x : ℕ) (o : Object Shape Signature) → at_label objects (label_in r x) ≡ Some o → meaning.object_for x ≡ Some o
   has_object x o h = go (ordinal_in r.ordinals x) h
     where
@@ -174,13 +175,13 @@ module _ (r : Resolution) where
   bind_typed-both [] qs env = refl
   bind_typed-both (p ∷ ps) qs env = bind_typed-both ps qs ((p.name, a_variable p.formal.shape) ∷ env)
 
-  -- the first parameter is bound
+  -- The first parameter is bound to a variable of its type.
   first-bound : (x : Label) (f : Formal) (ps : List (TypedParameter Label)) → Right objects (bind_typed (record { name = x; formal = f } ∷ ps) []) → at_label objects x ≡ Some (a_variable f.shape)
   first-bound x f ps right =
       let one : TypeEnvironment Label = (x, a_variable f.shape) ∷ [] in
       (right_split objects (bind_typed ps []) one (subst (Right objects) (bind_typed-append ps [] one) right)).1.0
 
-  -- a section, if those after it are right
+  -- A section of parameters has its types if the later sections have theirs.
   section-typed : (env : TypeEnvironment Label) (k : ℕ) (mode : Mode) (x : ℕ) (others : List Label) (u : Tree ℕ written_type) (fs : Tree ℕ (items further_section)) (qs : List (TypedParameter Label))
       → option_and_then
       (λ s. option_and_then (λ rest. Some (map (parameter_of mode s) (label_in r x ∷ others) ++ rest))

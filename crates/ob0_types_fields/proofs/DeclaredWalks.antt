@@ -1,5 +1,4 @@
--- Walks over declarations with types, and over procedures: the fields found, and the number of
--- words ARRAY and RECORD.
+-- The walks over declarations with types find the declared fields and count the words ARRAY and RECORD.
 use Rattle.std.proofs.Common.{◌≡◌, ℕ, ◌+◌, ◌≤◌, List, ◌++◌, length, drop, sym, ap, ◌∙◌, append-nil, arith}
 use Rattle.std.proofs.lemmas.List.{drop_all}
 use Rattle.ob0_tree.specs.declared.tree.Section.{Section}

@@ -1,4 +1,4 @@
--- The walk over procedures that finds the fields that they declare, and counts ARRAY and RECORD.
+-- The walk over procedures finds the fields that they declare and counts the words ARRAY and RECORD.
 use Rattle.std.proofs.Common.{◌≡◌, ℕ, ◌+◌, ◌≤◌, List, ◌++◌, length, drop, sym, ap, ◌∙◌, append-nil, arith}
 use Rattle.std.proofs.lemmas.List.{drop_all}
 use Rattle.ob0_tree.specs.declared.tree.Procedure.{Procedure}

@@ -1,5 +1,5 @@
--- Another field of a record has a name exactly if a token declares it. The proof is one induction
--- over declarations, about the declared tokens and the records of the named tree together.
+-- Another field of a record has a name exactly if a token declares a field of the record with it. The proof is one
+-- induction over declarations, about the declared tokens and the records of the named tree together.
 use Rattle.std.proofs.Common.{◌≡◌, ℕ, suc, ◌+◌, Bool, true, false, not, is_some, ◌&&◌, ◌||◌, ◌==◌, if◌then◌else◌, List, [], ◌∷◌, ◌++◌, map, refl, ap, ◌∙◌, sym}
 use Rattle.std.specs.List.{list_any}
 use Rattle.std.proofs.lemmas.Slice.Eq.{bytes_eq-Decides}
@@ -38,7 +38,7 @@ and-or : (b x y : Bool) → ((b && x) || (b && y)) ≡ (b && (x || y))
 and-or true x y = refl
 and-or false x y = refl
 
--- regroups the declarations of a group, its inner records, and the same for the groups after it
+-- Regroups the tests for the fields of a group, the records within it, and the later groups.
 shuffled : (b x y z w : Bool) → (((b && x) || y) || ((b && z) || w)) ≡ ((b && (x || z)) || (y || w))
 shuffled false x y z w = refl
 shuffled true true y z w = refl
@@ -78,7 +78,7 @@ module _ (text : ℕ → Name) (value : ℕ → ℕ) where
     abbrev GroupsHit : ℕ → ℕ → Tree ℕ (items further_fields) → Type 0
     GroupsHit o k gs = list_any hit (marked_groups o k gs) ≡ (((o == r) && list_any another (groups_fields (mapped text value gs))) || list_any in_record (records_in_groups k (mapped text value gs)))
 
-    -- the declarations of the first group and its inner records, and the same for the others
+    -- The tests for a first group and its inner records can be joined with the tests for the later groups.
     two-hit : (o k : ℕ) (g : Tree ℕ fields) (rest : Tree ℕ (items further_fields)) → GroupHit o k g → GroupsHit o (k + group_constructors g) rest
         → list_any hit (marked_group o k g ++ marked_groups o (k + group_constructors g) rest)
         ≡ (((o == r) && list_any another (group_fields (mapped text value g) ++ groups_fields (mapped text value rest)))
@@ -172,7 +172,7 @@ module _ (text : ℕ → Name) (value : ℕ → ℕ) where
           both (marked_sections k (formal_sections fs)) (declared_in_block n b) (records_in_sections k (formal_sections (mapped text value fs))) (records_in_block (after_formals k p') (mapped text value b)) (formals-hit k fs)
           (block-hit n b ∙ ap (λ c. list_any in_record (records_in_block c (mapped text value b))) (sym counted))
 
--- another field of the record has the new name, if this isn't the old one
+-- A name is the new name but not the old one exactly if the name is the new one and the two differ.
 another-name : (x f new : Name) → (same_name x new && not (same_name x f)) ≡ (not (same_name new f) && same_name x new)
 another-name x f new = one (same_name x new) refl
   where

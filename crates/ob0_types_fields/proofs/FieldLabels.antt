@@ -1,4 +1,4 @@
--- The names of fields are unbound in a numbered tree.
+-- The names of fields are labels with only a spelling in a numbered tree, so they are unbound.
 use Rattle.std.proofs.Common.{ℕ, suc, None, List, [], ◌∷◌}
 use Rattle.ob0_tree.specs.Tree.{Tree, array_type, block, declares, declares_procedure, declares_type, declares_types, declares_variable, declares_variables, end, fields, formals, further_fields, further_name, further_section, has_body, is_module, item, items, listed, maybe, module_text, more, named_type, names, no_fields, no_formals, none, one, procedure, record_type, section, some_fields, some_formals, then_fields, then_name, then_section, type_name, type_names, value_section, variable, variable_section, variables, written_type}
 use Rattle.ob0_language_names.specs.Mapping.{with_names}

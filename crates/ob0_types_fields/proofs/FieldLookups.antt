@@ -1,5 +1,5 @@
--- A record has a type for a name exactly if it has a position for it, and then the name selects a
--- field of it.
+-- A record has a type for a name exactly if it has a position for the name. The name then selects a field of the
+-- record.
 use Rattle.std.proofs.Common.{◌≡◌, ℕ, suc, Bool, true, false, if◌then◌else◌, Option, Some, None, option_map, refl, sym, ap, ◌∙◌}
 use Rattle.ob0_language_names.specs.Names.{Name, same_name}
 use Rattle.ob0_language_types.specs.Typing.{shape_of_field}
@@ -8,7 +8,7 @@ use Rattle.ob0_types_table.specs.FieldPlaces.{place_of_field}
 use Rattle.ob0_types_fields.specs.Owned.{marked_field, owner}
 use Rattle.ob0_language_values.specs.Values.{FieldShapes, Shape, next_field_shape, no_field_shape, record_shape}
 
--- the ordinal k of the record, if a field has a position in it
+-- returns the ordinal `k` of the record if a field has a position in the record
 abbrev owner_with : ℕ → Option ℕ → Option ℕ
 owner_with k o = option_map (λ (f : FieldOf). f.ordinal) (option_map (λ i. record { ordinal = k; index = i }) o)
 
@@ -25,6 +25,6 @@ owner_at k (next_field_shape y s rest) x = by_test (same_name x y) (owner_at k r
     by_test true later = refl
     by_test false later = one_further k (place_of_field rest x) ∙ later
 
--- the field added for a name, from the name's type in a record
+-- The field that is appended for a name depends on whether the record has a type for the name.
 pub marked_by_type : (k : ℕ) (fs : FieldShapes) (x : Name) (name : ℕ) (t : Option Shape) → t ≡ shape_of_field fs x → marked_field name (owner (Some (record_shape k fs)) x) ≡ marked_field name (option_map (λ _. k) t)
 marked_by_type k fs x name t e = ap (marked_field name) (owner_at k fs x ∙ ap (option_map (λ _. k)) (sym e))

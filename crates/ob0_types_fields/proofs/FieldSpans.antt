@@ -1,7 +1,6 @@
--- The spans of identifiers in text order, and the binary search among them. Tokens follow one
--- another. So, if token indexes ascend, the starts and the ends don't descend (`starts_rise`,
--- `ends_rise`). The identifier after the ones that end before a place is the one that a linear
--- search finds (`halved`).
+-- The binary search among the spans of identifiers in text order is right. Tokens follow one another. So, if token
+-- indexes ascend, the starts and the ends of spans don't descend (`starts_rise`, `ends_rise`). The first identifier
+-- that doesn't end before a place is the one that a linear search finds (`halved`).
 use Rattle.std.proofs.Common.{◌≡◌, ℕ, zero, suc, ◌+◌, ◌<◌, ◌≤◌, Bool, true, false, if◌then◌else◌, List, [], ◌∷◌, ◌++◌, length, get_or, Some, None, Option, refl, ap, ◌∙◌, sym, subst, arith, ⊎_elim}
 use Rattle.std.specs.Prelude.{nat_le, nat_lt, slice_get}
 use Rattle.std.specs.List.Sorted.{IsNonDecreasingBy, IsPartitionPoint}
@@ -23,7 +22,7 @@ use Rattle.ob0_types_fields.specs.Identifiers.{AreInTextOrder, field_on, tokens_
 
 -- ---- the tokens of a text
 
--- states that each token begins at or after the end of the one before it
+-- holds if each token begins at or after the end of the previous one
 abbrev Follow : ℕ → List Token → Type 0
 Follow from [] = Unit {0}
 Follow from (t ∷ ts) = (from ≤ t.span.start) × ((t.span.start ≤ t.span.end) × Follow t.span.end ts)
@@ -119,7 +118,7 @@ module _ (source : Scanned) (scan : IsScan source) where
 
 -- ---- binary search
 
--- the identifier after the ones that end before a place, if it has the place in it
+-- returns the identifier if it contains a place or ends there
 abbrev pub on_place : Scanned → ℕ → Option FieldName → Option FieldName
 on_place source offset None = None
 on_place source offset (Some x) = if is_on offset (span_at source x.token) then Some x else None

@@ -1,5 +1,4 @@
--- The tokens of one field are identifiers in text order, and renaming the field puts the new name
--- there.
+-- The tokens of one field are identifiers in text order, and renaming the field puts the new name at these tokens.
 use Rattle.std.proofs.Common.{◌≡◌, ◌≢◌, ℕ, zero, suc, ◌+◌, ◌<◌, ◌≤◌, Bool, true, false, ◌&&◌, ◌||◌, ◌==◌, if◌then◌else◌, List, [], ◌∷◌, length, replicate, set, Some, None, Option, refl, ap, ◌∙◌, sym, subst, arith, get_or-set_other, get_or-set_same, eq-eqb, eqb-true}
 use Rattle.std.specs.List.{list_any}
 use Rattle.std.specs.Prelude.{IfSome}
@@ -152,7 +151,7 @@ renamed_at_tokens-holds r k f new named fits =
     renamed_by_token-holds m table k f new (owners_of_fields-holds r named fits)
     ∙ (λ j. mapped (λ i. if among i j then new else text_at m.source i) (value_at m.source) (tree_of m))
 
--- the identifier at a place is one of the text's identifiers
+-- The field identifier at a place is one of the text's identifiers.
 pub field_is_identifier : (source : Scanned) (ts : List Token) (offset : ℕ) (xs : List FieldName) → AreIdentifiers ts (tokens_of xs) → IfSome (field_on source offset xs) (λ x. IsIdentifierToken ts x.token)
 field_is_identifier source ts offset [] identified = tt
 field_is_identifier source ts offset (x ∷ xs) identified = one (is_on offset (span_at source x.token)) identified.0 (field_is_identifier source ts offset xs identified.1)

@@ -1,5 +1,5 @@
--- In a well-typed module the field of each identifier is declared by its record. Otherwise the
--- field could have another name where it is selected, without changing the module.
+-- The field of each identifier in a well-typed module is declared by its record. Otherwise a selected field could have
+-- another name without any change to the module.
 use Rattle.std.proofs.Common.{◌≡◌, ℕ, suc, ◌==◌, Bool, true, false, ◌&&◌, ◌||◌, not, if◌then◌else◌, List, [], ◌∷◌, map, length, is_some, Some, None, Option, refl, sym, ap, ◌∙◌, arith, true≢false, eq-eqb, eqb-true, All}
 use Rattle.std.proofs.lemmas.List.Elements.{All-cons, All-nil}
 use Rattle.std.proofs.lemmas.Slice.Eq.{bytes_eq-Decides}
@@ -82,7 +82,7 @@ first_is h = cc
 others_are : {A : Type 0} {x y : A} {xs ys : List A} → x ∷ xs ≡ y ∷ ys → xs ≡ ys
 others_are h = cc
 
--- two rewritings that agree on a list of identifiers agree at each of them
+-- If two rewritings agree on a list of identifiers, they agree at each identifier of the list.
 same_at : (g h : ℕ → written.Name) (i : ℕ) (xs : List ℕ) → map g xs ≡ map h xs → list_any (λ x. i == x) xs ≡ true → g i ≡ h i
 same_at g h i [] e among = absurd (true≢false (sym among))
 same_at g h i (x ∷ xs) e among = one (i == x) refl among (same_at g h i xs (others_are e))
@@ -133,7 +133,7 @@ module _ (source : Scanned) (x : FieldName) where
       one true at false of e later = kept (is_field source x.owner (text_at source x.token) y) y.token (its_tokens ys) (later e)
       one false at b of e later = kept (is_field source x.owner (text_at source x.token) y) y.token (its_tokens ys) (later e)
 
--- a property of each element holds for all
+-- A property that holds for each element of a list holds for all.
 each : (P : FieldName → Type 0) (xs : List FieldName) → ((x : FieldName) → list_any (same x) xs ≡ true → P x) → All P xs
 each P [] h = All-nil P
 each P (x ∷ xs) h = All-cons P x xs
@@ -147,7 +147,7 @@ module _ (r : Resolution) (named : IsResolution r) (fits : WellTyped (named_tree
   abbrev f : written.Name
   f = text_at m.source x.token
 
-  -- the spelling with another name at the tokens of the field
+  -- returns the spelling of a token if the tokens of the field have another name
   abbrev writes : ℕ → written.Name
   writes i = if list_any (λ token. i == token) (field_tokens r x.owner f) then another f else text_at m.source i
 

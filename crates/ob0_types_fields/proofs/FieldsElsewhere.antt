@@ -1,6 +1,5 @@
--- The fields of a module after the statements of one body were replaced, made from its fields
--- before. The fields before the body are kept, those after it are moved, and the fields of its
--- statements are found.
+-- If the statements of one body were replaced, the fields of the module can be made from its old fields. The fields
+-- before the body are kept, the fields after it are moved, and the fields of its statements are found.
 use Rattle.std.proofs.Common.{◌≡◌, ℕ, suc, ◌+◌, ◌-◌, ◌^◌, ◌<◌, ◌≤◌, min, true, false, nat_le, nat_lt, List, [], ◌∷◌, ◌++◌, map, length, Some, None, Option, unwrap_or, refl, ap, ◌∙◌, sym, subst, arith}
 use Rattle.std.proofs.Math.Nat.{min-eq_left}
 use Rattle.std.proofs.lemmas.List.{map-append}
@@ -51,12 +50,12 @@ module _ (s : SameTokens) where
   stays [] h = refl
   stays ((x, o) ∷ xs) h = λ i. (moved_below s x h.0 i, o) ∷ stays xs h.1 i
 
-  -- no index exceeds the largest one
+  -- Capping the new indexes doesn't change them if they all fit 64 bits.
   same_places : (xs : List FieldName) → AllByRecursion (λ x. moved s x.token < 2 ^ 64) xs → map (field_placed (moved s)) xs ≡ map (field_now s) xs
   same_places [] h = refl
   same_places (x ∷ xs) h = λ i. record { token = at_most (moved s x.token) h.0 i; owner = x.owner } ∷ same_places xs h.1 i
 
--- a property of all mapped items holds for each item's image
+-- A property of all mapped items holds for the image of each item.
 of_made : {X Y : Type 0} (f : X → Y) (P : Y → Type 0) (xs : List X) → AllByRecursion P (map f xs) → AllByRecursion (λ x. P (f x)) xs
 of_made f P [] h = tt
 of_made f P (x ∷ xs) h = (h.0, of_made f P xs h.1)
@@ -69,7 +68,7 @@ first_is h = cc
 others_are : {A : Type 0} {x y : A} {xs ys : List A} → x ∷ xs ≡ y ∷ ys → xs ≡ ys
 others_are h = cc
 
--- a field's name with its owner in front
+-- puts a field's owner before its name
 abbrev with_owner : ℕ → Name → Name
 with_owner k x = k ∷ x
 
@@ -82,7 +81,7 @@ same_owner None (Some k) x y e h = absurd (longer k y (sym e ∙ h))
 same_owner (Some j) None x y e h = absurd (longer j x (e ∙ sym h))
 same_owner (Some j) (Some k) x y e h = ap Some (first_is h)
 
--- if identifiers and owners together have the same spelling as before, the owners are the same
+-- If identifiers with their owners have the same spelling as before, their owners are the same.
 owners_kept : (at : ℕ → ℕ) (before now : ℕ → Option ℕ) (written writes : ℕ → Name) (xs : List ℕ)
     → map (λ i. of_records with_owner (now i) (writes i)) (map at xs) ≡ map (λ i. of_records with_owner (before i) (written i)) xs
     → map writes (map at xs) ≡ map written xs → AllByRecursion (λ i. now (at i) ≡ before i) xs
@@ -90,7 +89,7 @@ owners_kept at before now written writes [] e h = tt
 owners_kept at before now written writes (x ∷ xs) e h =
     (same_owner (now (at x)) (before x) (writes (at x)) (written x) (first_is h) (first_is e), owners_kept at before now written writes xs (others_are e) (others_are h))
 
--- lists of identifiers with their owners, one of them at the new indexes of the other
+-- Two lists of identifiers with the same owners, one at the new indexes of the other, are the same list moved.
 placed_alike : (at : ℕ → ℕ) (before now : ℕ → Option ℕ) (xs ys : List (ℕ × Option ℕ)) → tokens xs ≡ map at (tokens ys) → HasOwners now xs → HasOwners before ys
     → AllByRecursion (λ i. now (at i) ≡ before i) (tokens ys) → xs ≡ map (placed at) ys
 placed_alike at before now [] [] e h g same = refl
@@ -105,17 +104,18 @@ owners_joined : (table : ℕ → Option ℕ) (xs ys : List (ℕ × Option ℕ)) 
 owners_joined table [] ys h g = g
 owners_joined table (x ∷ xs) ys h g = (h.0, owners_joined table xs ys h.1 g)
 
--- leaves out the middle part
+-- If a table has the owners of three lists, it has the owners of the first and the last list.
 owners_around : (table : ℕ → Option ℕ) (xs ys zs : List (ℕ × Option ℕ)) → HasOwners table (xs ++ (ys ++ zs)) → HasOwners table (xs ++ zs)
 owners_around table xs ys zs h =
     let p = owners_split table xs (ys ++ zs) h in
     owners_joined table xs zs p.0 (owners_split table ys zs p.1).1
 
--- the meanings of a module's identifiers, from its declarations
+-- returns the meanings of a module's identifiers according to its declarations
 abbrev meant : Resolution → Meanings ℕ Shape Signature
 meant q = token_objects (declared_object (named_tree_of q.module_read)) q
 
--- a well-typed module without some statements, each identifier with its owner in front
+-- In a well-typed module without some statements, putting the owner before each field's name is the same as rewriting
+-- each token according to the table.
 written_without : (q : Resolution) (way : Way) → IsResolution q → WellTyped (named_tree_of q.module_read)
     → refielded (of_records with_owner) (named q.module_read.source (without way (tree_of q.module_read)))
     ≡ mapped (λ i. of_records with_owner (ordinal_in (with_owners q) i) (text_at q.module_read.source i)) (value_at q.module_read.source) (without way (tree_of q.module_read))
@@ -140,7 +140,7 @@ module _ (old r : Resolution) (way : Way) (s : SameTokens) (is : IsBodyReplaced 
   abbrev meant_now : Meanings ℕ Shape Signature
   meant_now = meant r
 
-  -- the kept identifiers are at their new indexes
+  -- The identifiers outside the replaced statements are at their new indexes.
   leaves_now : leaves (without way now) ≡ map (moved s) (leaves (without way before))
   leaves_now = ap leaves is.outside ∙ leaves_mapped (moved s) (moved s) (without way before)
 
@@ -267,7 +267,7 @@ module _ (old r : Resolution) (way : Way) (s : SameTokens) (is : IsBodyReplaced 
       (among_each (λ t. nat_le c t ≡ false) inner_before (weaker (λ x. (is.first ≤ x.0) × (x.0 < c)) (λ x. nat_le c x.0 ≡ false) (λ x h. le_false c x.0 h.1) inner_before b.inside))
       (among_each (λ t. nat_le c t ≡ true) around_before.after (weaker (λ x. (c + 1 ≤ x.0) × (x.0 < length old.module_read.source.tokens)) (λ x. nat_le c x.0 ≡ true) (λ x h. le_true c x.0 (omega (arith, h.0))) around_before.after b.above))
 
-  -- the old index of the closing name
+  -- The old index of the closing name follows from its new index.
   closing_before : place_before s (closing_at way now) ≡ closing_at way before
   closing_before =
       let c : ℕ = closing_at way before in
@@ -296,7 +296,7 @@ module _ (old r : Resolution) (way : Way) (s : SameTokens) (is : IsBodyReplaced 
       (subst (AllByRecursion (λ x. x.token < 2 ^ 64)) declared_now
       (declared_among meant_now (λ x. x.token < 2 ^ 64) now (subst (AllByRecursion (λ x. x.token < 2 ^ 64)) (module-fields meant_now now) all_few)))
 
-  -- the fields made from the old ones
+  -- The lists that are made from the old fields are the module's fields.
   pub fields_elsewhere : (fields f : Listed) (t : Tables) → AreFields old fields → ((k : ℕ) → declared_in t k ≡ declared_object (named_tree_of r.module_read) k)
       → (statements : Tree ℕ (maybe body)) → statements ≡ body_at way now → (first closing : ℕ) → first_of (identifiers role.Declaring (body_at way now)) ≡ Some first → closing ≡ closing_at way now
       → f.declared ≡ map (field_now s) fields.declared

@@ -1,6 +1,6 @@
--- In a well-typed module each identifier in the place of a field is one of its fields. If all
--- fields were rewritten, a table of owners would rewrite those with an owner, and the definition of
--- a renaming would rewrite each one.
+-- Each identifier in the place of a field of a well-typed module is one of its fields. The proof rewrites all fields. A
+-- table of owners rewrites the identifiers with an owner, and the definition of rewriting rewrites each identifier in
+-- the place of a field.
 use Rattle.std.proofs.Common.{◌≡◌, ℕ, suc, ◌+◌, true, ◌&&◌, List, [], ◌∷◌, ◌++◌, map, length, Some, None, Option, option_and_then, option_map, unwrap_or, refl, sym, ap, ◌∙◌, subst, arith}
 use Rattle.ob0_scan.specs.Scanned.{Scanned}
 use Rattle.ob0_tree.specs.declared.tree.Role.{Role}
@@ -151,7 +151,7 @@ constant-scalar (Some (a_variable t)) s h = absurd (cc)
 constant-scalar (Some (a_procedure t)) s h = absurd (cc)
 constant-scalar (Some (a_standard t)) s h = absurd (cc)
 
--- the meanings with constants only
+-- returns the meanings with constants only
 abbrev alone : Typed Name → Meanings Name Shape (Unit {0})
 alone m = constants_only m
 
@@ -378,7 +378,7 @@ others_are h = cc
 abbrev owner_writes : Scanned → (ℕ → Option ℕ) → ℕ → Name
 owner_writes source table i = of_records (λ k x. again x) (table i) (text_at source i)
 
--- states that an identifier has an owner exactly if it is in the place of a field
+-- holds if an identifier has an owner exactly if it is in the place of a field
 abbrev Matches : Role → Option ℕ → Type 0
 Matches role.FieldName None = ⊥
 Matches role.FieldName (Some k) = Unit {0}
@@ -397,8 +397,8 @@ matched x role.ClosingName (Some k) h = longer x h
 matched x role.ModuleName None h = tt
 matched x role.ModuleName (Some k) h = longer x h
 
--- the owners of identifiers and their roles: the identifiers with an owner are the ones in the
--- places of fields
+-- The identifiers with an owner are exactly the identifiers in the places of fields, if each identifier has an owner
+-- exactly if its role says that it is a field.
 listed_fields : (source : Scanned) (table : ℕ → Option ℕ) (xs : List (ℕ × Option ℕ)) (ys : List (Role × ℕ)) → tokens xs ≡ names_only ys → HasOwners table xs
     → map mark_at (map (beside_role (text_at source)) ys) ≡ map (beside_role (owner_writes source table)) ys → tokens_of (fields_among xs) ≡ written_fields ys
 listed_fields source table [] [] e has h = refl

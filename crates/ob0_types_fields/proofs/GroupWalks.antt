@@ -1,4 +1,4 @@
--- Walks over the names of a group and the groups of a record.
+-- The walks over the names of a group and over the groups of a record find the declared fields.
 use Rattle.std.proofs.Common.{◌≡◌, ℕ, ◌+◌, ◌≤◌, List, [], ◌∷◌, ◌++◌, length, drop, refl, sym, ap, ◌∙◌, append-nil}
 use Rattle.std.proofs.lemmas.List.{drop_all}
 use Rattle.ob0_tree.specs.declared.tree.Fields.{Fields}
@@ -9,8 +9,7 @@ use Rattle.ob0_language_types.specs.Typing.{groups_constructors}
 use Rattle.ob0_types_fields.specs.declared.field_name.FieldName.{FieldName}
 use Rattle.ob0_types_fields.specs.Owned.{marked_groups, marked_names}
 
--- states that the fields so far, with the fields of the remaining names, are the fields of all
--- names
+-- holds if the fields so far, followed by the fields of the remaining names, are the fields of all names
 pub record OverNames (r : ℕ) (start : List FieldName) (xs : List ℕ) (done : ℕ) (out : List FieldName) : Type 0 where
   pub so_far : out ++ marked_names r (drop done xs) ≡ start ++ marked_names r xs
 
@@ -21,7 +20,8 @@ pub further_listed : (xs : List ℕ) → further_names (items_of then_name xs) �
 further_listed [] = refl
 further_listed (x ∷ xs) = ap (λ z. x ∷ z) (further_listed xs)
 
--- states the same for groups: the fields found, and the number of words ARRAY and RECORD
+-- Holds if the fields so far, followed by the fields of the remaining groups, are the fields of all groups. The words
+-- ARRAY and RECORD so far and in the remaining groups must be as many as in all groups.
 pub record OverGroups (r k : ℕ) (start : List FieldName) (xs : List Fields) (done : ℕ) (out : List FieldName) (next : ℕ) : Type 0 where
   pub so_far : out ++ marked_groups r next (items_of further_fields_of_group (drop done xs)) ≡ start ++ marked_groups r k (items_of further_fields_of_group xs)
   pub counted : next + groups_constructors (items_of further_fields_of_group (drop done xs)) ≡ k + groups_constructors (items_of further_fields_of_group xs)

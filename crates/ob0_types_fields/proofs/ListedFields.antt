@@ -1,4 +1,4 @@
--- The lists of a well-typed module have its fields: if no field is declared, no field is selected.
+-- The lists of a well-typed module have its fields. If no field is declared, no field is selected.
 use Rattle.std.proofs.Common.{◌≡◌, ◌==◌, ℕ, Bool, true, false, List, [], ◌∷◌, length, is_some, if◌then◌else◌, refl, sym, ap, ◌∙◌, true≢false, eqb-true, All}
 use Rattle.std.proofs.lemmas.List.{nil_from_length}
 use Rattle.std.proofs.lemmas.List.Elements.{All-head}

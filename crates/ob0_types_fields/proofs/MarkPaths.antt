@@ -1,4 +1,5 @@
--- The selectors of a designator one by one, each from the type after the one before.
+-- The loop over the selectors of a designator finds the selected fields. Each selector starts from the type after the
+-- previous one.
 use Rattle.std.proofs.Common.{◌≡◌, ℕ, ◌+◌, ◌<◌, List, ◌∷◌, ◌++◌, length, get_or, drop, Option, refl, sym, ap, ◌∙◌, append_assoc}
 use Rattle.std.proofs.lemmas.List.{drop_more}
 use Rattle.ob0_tree.specs.declared.tree.Selector.{Selector}
@@ -16,8 +17,8 @@ path_more : {P : Type 0} (m : Meanings ℕ Shape P) (base : Option Shape) (a : T
 path_more m base (field x) rest = refl
 path_more m base (index e) rest = refl
 
--- states that the fields so far, with the fields of the remaining selectors, are the fields at the
--- start with the fields of the path
+-- holds if the fields so far, followed by the fields of the remaining selectors, are the fields at the start followed
+-- by the fields of all selectors
 pub record OnPath (m : Meanings ℕ Shape Signature) (start : List FieldName) (base : Option Shape) (xs : List Selector) (done : ℕ) (out : List FieldName) (at : Option Shape) : Type 0 where
   pub so_far : out ++ marked_path m at (items_of selector_of (drop done xs)) ≡ start ++ marked_path m base (items_of selector_of xs)
 

@@ -1,4 +1,4 @@
--- A walk over the items of a list, which appends the fields that each item selects.
+-- A walk over the items of a list appends the fields that each item selects.
 use Rattle.std.proofs.Common.{◌≡◌, ℕ, ◌≤◌, List, ◌++◌, length, drop, sym, ap, ◌∙◌, append_assoc, append-nil}
 use Rattle.std.proofs.lemmas.List.{drop_all}
 use Rattle.ob0_tree.specs.Tree.{Tree, Item, item}
@@ -9,8 +9,8 @@ use Rattle.ob0_types_fields.specs.declared.field_name.FieldName.{FieldName}
 use Rattle.ob0_types_fields.specs.Owned.{marked_tree}
 use Rattle.ob0_language_values.specs.Values.{Shape}
 
--- states that the fields so far, with the fields of the remaining items, are the fields at the
--- start with the fields of all items
+-- holds if the fields so far, followed by the fields of the remaining items, are the fields at the start followed by
+-- the fields of all items
 pub record Walking {A : Type 0} {i : Item} (f : A → Tree ℕ (item i)) (m : Meanings ℕ Shape Signature) (start : List FieldName) (xs : List A) (done : ℕ) (out : List FieldName) : Type 0 where
   pub so_far : out ++ marked_tree m (items_of f (drop done xs)) ≡ start ++ marked_tree m (items_of f xs)
 
@@ -19,7 +19,7 @@ pub walk_ends : {A : Type 0} {i : Item} {f : A → Tree ℕ (item i)} {m : Meani
 walk_ends {f = f} {m = m} {xs = xs} {done = done} {out = out} w all =
     sym (append-nil out) ∙ sym (ap (λ ys. out ++ marked_tree m (items_of f ys)) (drop_all done xs all)) ∙ w.so_far
 
--- parts that are found one after another
+-- Two parts that are appended one after another are appended together.
 pub after_two : {X : Type 0} (start a b : List X) {out more c : List X} → out ≡ start ++ a → more ≡ out ++ b → b ≡ c → more ≡ start ++ (a ++ c)
 after_two start a b e f g = f ∙ ap (λ o. o ++ b) e ∙ append_assoc start a b ∙ ap (λ z. start ++ (a ++ z)) g
 

@@ -125,7 +125,7 @@ names-fields r (x ∷ xs) = ap (λ z. record { token = x; owner = r } ∷ z) (na
 plain-fields : {sort : Sort} (t : Tree ℕ sort) → fields_among (unowned t) ≡ []
 plain-fields t = none-among (identifiers role.Declaring t)
 
--- after a part without fields
+-- A part without fields can be skipped.
 after-plain : {sort : Sort} (t : Tree ℕ sort) (xs : List (ℕ × Option ℕ)) {us : List FieldName} → fields_among xs ≡ us → fields_among (unowned t ++ xs) ≡ us
 after-plain t xs e = among-both (unowned t) xs (plain-fields t) e
 

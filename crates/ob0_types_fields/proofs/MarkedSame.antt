@@ -10,7 +10,7 @@ use Rattle.ob0_language_values.specs.Values.{Shape, integer_shape}
 use Rattle.ob0_scope_table.specs.BodyAlone.{EachToken}
 use Rattle.ob0_types_fields.specs.Owned.{marked_block, marked_field, marked_path, marked_procedure, marked_procedures, marked_sections, marked_tree, marked_types, marked_variables, owner}
 
--- states that the names at a token have the same meaning and spelling
+-- holds if the names at a token have the same meaning and spelling
 pub record MeansSame {Q : Type 0} (m n : Meanings ℕ Shape Q) (token : ℕ) : Type 0 where
   pub object : m.object_for token ≡ n.object_for token
   pub written : m.written token ≡ n.written token
@@ -78,7 +78,7 @@ module _ {Q : Type 0} (m n : Meanings ℕ Shape Q) where
     tree_same (has_body a b) h = refl
     tree_same (is_module a b c) h = refl
 
-    -- from a value of the same type
+    -- Selectors select the same fields from a value of the same type.
     path_same : (s t : Option Shape) → s ≡ t → (path : Tree ℕ (items selector)) → EachToken Same path → marked_path m s path ≡ marked_path n t path
     path_same s t e end h = refl
     path_same s t e (more (field x) rest) h =

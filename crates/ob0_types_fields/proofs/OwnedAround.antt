@@ -1,4 +1,4 @@
--- The identifiers of a module before and after the statements to which a way leads: together they
+-- The identifiers of a module can be split around the statements to which a way leads. The identifiers before and after
 -- are the identifiers of the module without these statements.
 use Rattle.std.proofs.Common.{◌≡◌, ℕ, zero, suc, ◌+◌, List, [], ◌∷◌, ◌++◌, None, Option, refl, ap, ◌∙◌, sym, append_assoc, append-nil}
 use Rattle.ob0_tree.specs.Tree.{Tree, block, declares, declares_procedure, end, has_body, is_module, item, items, module_text, more, procedure}
@@ -29,15 +29,15 @@ module _ {N : Type 0} where
 
 -- ---- before and after
 
--- identifiers with the identifiers of some statements among them, and the list without those; a
--- closing name follows the statements
+-- Holds if `all` has the identifiers of some statements (`inner`) among others, and `rest` is the list without them. A
+-- closing name follows the statements.
 pub record IsAround (all rest inner : List (ℕ × Option ℕ)) (closing : ℕ) : Type 0 where
   pub before : List (ℕ × Option ℕ)
   pub after : List (ℕ × Option ℕ)
   pub whole : all ≡ before ++ (inner ++ ((closing, None) ∷ after))
   pub left : rest ≡ before ++ ((closing, None) ∷ after)
 
--- the same identifiers in front of both
+-- If the lists `all` and `rest` get the same prefix, the identifiers of the statements are still between the others.
 in_front : (all rest inner front : List (ℕ × Option ℕ)) (closing : ℕ) → IsAround all rest inner closing → IsAround (front ++ all) (front ++ rest) inner closing
 in_front all rest inner front closing h = record {
   before = front ++ h.before;
@@ -46,7 +46,7 @@ in_front all rest inner front closing h = record {
   left = ap (λ l. front ++ l) h.left ∙ sym (append_assoc front h.before ((closing, None) ∷ h.after));
 }
 
--- the same identifiers after both
+-- If the lists `all` and `rest` get the same suffix, the identifiers of the statements are still between the others.
 followed_by : (all rest inner back : List (ℕ × Option ℕ)) (closing : ℕ) → IsAround all rest inner closing → IsAround (all ++ back) (rest ++ back) inner closing
 followed_by all rest inner back closing h = record {
   before = h.before;
@@ -58,14 +58,14 @@ followed_by all rest inner back closing h = record {
 as_these : {all rest us vs : List (ℕ × Option ℕ)} (inner : List (ℕ × Option ℕ)) (closing : ℕ) → us ≡ all → vs ≡ rest → IsAround all rest inner closing → IsAround us vs inner closing
 as_these inner closing e f h = record { before = h.before; after = h.after; whole = e ∙ h.whole; left = f ∙ h.left }
 
--- four parts and a fifth, one after the other
+-- Regroups a concatenation of six lists.
 regrouped : (a b c d e f : List (ℕ × Option ℕ)) → ((a ++ (b ++ (c ++ d))) ++ e) ++ f ≡ a ++ (b ++ (c ++ (d ++ (e ++ f))))
 regrouped a b c d e f =
     append_assoc (a ++ (b ++ (c ++ d))) e f
     ∙ (append_assoc a (b ++ (c ++ d)) (e ++ f)
     ∙ ap (λ l. a ++ l) (append_assoc b (c ++ d) (e ++ f) ∙ ap (λ l. b ++ l) (append_assoc c d (e ++ f))))
 
--- a closing name
+-- returns a closing name, which has no owner
 abbrev closed : ℕ → List (ℕ × Option ℕ)
 closed own = (own, None) ∷ []
 

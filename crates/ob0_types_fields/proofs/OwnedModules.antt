@@ -1,11 +1,10 @@
--- Rewriting the fields of a module is the same as rewriting each token according to a table of
--- owners: at each place, the environment gives a name the object of its declaration. One induction
--- over blocks and procedures takes a list of names with their ordinals and objects. That list
--- represents the environment by name, the environment by ordinal and the scope. The induction shows
--- that the bindings of the part have descending ordinals (`Descends`). It also gives the part with
--- its fields rewritten, if each binding has the object of its ordinal (`Right`). In descending
--- bindings each one is found at its ordinal (`bound_right`), so the whole module's bindings are
--- `Right`. Splitting the lists gives the same for each part.
+-- Rewriting the fields of a module is the same as rewriting each token according to a table of owners. The reason is
+-- that at each place, the environment gives a name the object of its declaration. The proof is one induction over
+-- blocks and procedures, which takes a list of names with their ordinals and objects. That list represents the
+-- environment by name, the environment by ordinal and the scope. The induction shows that the bindings of the part have
+-- descending ordinals (`Descends`). It also gives the part with its fields rewritten, if each binding has the object of
+-- its ordinal (`Right`). In descending bindings each binding is found at its ordinal (`bound_right`), so the bindings
+-- of the whole module are `Right`. Splitting the lists gives the same for each part.
 use Rattle.std.proofs.Common.{◌≡◌, ℕ, suc, ◌+◌, Bool, true, false, ◌&&◌, if◌then◌else◌, List, [], ◌∷◌, ◌++◌, map, Some, None, Option, option_map, option_and_then, unwrap_or, refl, sym, ap, ◌∙◌, subst, arith, le_refl, le_of_lt, lit<, true≢false, append-nil}
 use Rattle.std.proofs.lemmas.Bool.{and_parts}
 use Rattle.ob0_tree.specs.Tree.{Tree, block, body, constants, declares, declares_procedure, end, formals, has_body, is_module, item, items, Item, mapped, maybe, more, occurrences, procedure, type_names, variables}
@@ -44,7 +43,7 @@ use Rattle.ob0_language_fields.proofs.NamesMeant.{object_in}
 use Rattle.ob0_types_fields.proofs.Selecting.{body-selects, here}
 use Rattle.ob0_types_fields.proofs.DeclaredInOrder.{Descends, Grown, Right, block_grows, bound_right, descends_join, heading_grows, right_join, right_split}
 
--- the parts of a declaration that fits
+-- If a test of an optional value passes, the value is present and passes the test.
 
 held : {A : Type 0} (o : Option A) (test : A → Bool) → some_and o test ≡ true → (a : A) × (o ≡ Some a) × (test a ≡ true)
 held None test h = absurd (true≢false (sym h))
@@ -69,7 +68,7 @@ unfolding block_bindings
 block-listed env j (has_body (declares cs ts vs ps) statements) inner e =
     ap (λ o. for_some o (λ z. procedures_bindings as_labels z (after_variables j (has_body (declares cs ts vs ps) statements)) ps ++ since env z)) e
 
--- a block's constants, types and variables
+-- the list of names after a block's constants, types and variables, with facts about it
 record Opened (noted : TypeNoted Name) (j k : ℕ) (b : Tree Name block) : Type 0 where
   pub last : TypeNoted Name
   pub grown : Grown k (first_procedure k b) (typed_by_ordinal noted) (typed_by_ordinal last)
@@ -99,7 +98,7 @@ opened noted j k below b h =
       fits = ap (λ e. procedures_fit as_labels e (after_variables j b') (block_statements b') (block_procedures b')) same ∙ parts.2;
     }
 
--- a procedure's name and parameters
+-- the parts of a procedure that fits, with its name and parameters
 pub record FitParts (env : TypeEnvironment Label) (j : ℕ) (statements : Tree Label (maybe body)) (x : Label) (fs : Tree Label (maybe formals)) (b : Tree Label block) (closing : Label) (rest : Tree Label (items procedure)) (qs : List (TypedParameter Label)) : Type 0 where
   pub listed : procedures_bindings as_labels env j (more (declares_procedure x fs b closing) rest)
       ≡ procedures_bindings as_labels (heading x qs env) (j + procedure_constructors (declares_procedure x fs b closing)) rest ++ (block_bindings as_labels (bind_typed qs (heading x qs env)) (j + formals_constructors (formal_sections fs)) b ++ bind_typed qs (heading x qs []))
@@ -147,7 +146,7 @@ entered noted j k below statements fs b closing rest h =
     (ap (typed_parameters as_labels env j) (sym (formals-section as_names (as_label as_names) (typed_scope noted) (suc k) fs)) ∙ p.1) in
     record { listed = f.0; by_name = f.1; names = f.3; parts = subst (FitParts env j statements (declared k) fs' b closing rest) (sym f.2) p.2 }
 
--- the object that a name is bound to is the object of its ordinal
+-- The object that a name is bound to is the object of the name's ordinal.
 object-right : (objects : ℕ → Option (Object Shape Signature)) (noted : TypeNoted Name) → Right objects (typed_by_ordinal noted) → (x : Name)
     → newest (from_binding as_names (typed_by_name noted) x) ≡ option_and_then objects (ordinal_of as_names (typed_scope noted) x)
 object-right objects [] right x = refl
@@ -172,7 +171,8 @@ pub bind_typed-append : (ps : List (TypedParameter Label)) (first env : TypeEnvi
 bind_typed-append [] first env = refl
 bind_typed-append (p ∷ ps) first env = bind_typed-append ps ((p.name, a_variable p.formal.shape) ∷ first) env
 
--- the names after a procedure's heading, and inside the procedure
+-- `own_of` returns the list of names after a procedure's heading. `inside_of` returns the list of names within the
+-- procedure.
 abbrev own_of : TypeNoted Name → ℕ → Name → List (TypedParameter Name) → TypeNoted Name
 own_of noted k x listed = record { name = x; ordinal = k; object = a_procedure (map (λ p. p.formal) listed) } ∷ noted
 
@@ -196,7 +196,7 @@ module _ (l : ℕ → Name → Name) (at : ℕ → Option ℕ) (text : ℕ → N
   abbrev by_token : Meanings ℕ Shape Signature
   by_token = record { object_for = λ i. option_and_then objects (ordinal i); written = text }
 
-  -- the statements of a block
+  -- The names in the statements of a block have the same meanings by name and by token.
   alike-listed : (noted : TypeNoted Name) → Right objects (typed_by_ordinal noted) → (xs : List ℕ) → map (label_of as_names (as_label as_names) (typed_scope noted)) (map text xs) ≡ map label xs
       → Alike (meanings as_names (typed_by_name noted)) by_token xs
   alike-listed noted right [] e = tt
@@ -237,7 +237,7 @@ module _ (l : ℕ → Name → Name) (at : ℕ → Option ℕ) (text : ℕ → N
   unfolding block_bindings block_fits
   no-procedures noted j k below statements h = record { descends = le_refl k; last = noted; following = refl; below = below; fits = h; scoped = refl; written = λ right all e has. (refl, right) }
 
-  -- a block, after its procedures
+  -- A block has its fields rewritten according to the table if its procedures and statements have.
   named_count : (j : ℕ) (cs : Tree ℕ (maybe constants)) (ts : Tree ℕ (maybe type_names)) (vs : Tree ℕ (maybe variables)) (ps : Tree ℕ (items procedure)) (st : Tree ℕ (maybe body))
       → after_variables j (mapped text value (has_body (declares cs ts vs ps) st)) ≡ after_variables j (has_body (declares cs ts vs ps) st)
   named_count j cs ts vs ps st = λ i. j + counted_type_section text value ts i + counted_variable_section text value vs i
@@ -301,7 +301,7 @@ module _ (l : ℕ → Name → Name) (at : ℕ → Option ℕ) (text : ℕ → N
             λ i. has_body (declares (unowned-all l at text value cs s1.0 i) (type_section-owned l at text value j ts s2.0 i) (variables-written i) (procedures-written i)) (body-written i);
       }
 
-  -- a procedure, after its block and the procedures that follow
+  -- the facts about a procedure that are needed for its block and for the later procedures
   record Entry (noted : TypeNoted Name) (j k : ℕ) (statements : Tree Label (maybe body)) (x : ℕ) (fs : Tree ℕ (maybe formals)) (b : Tree ℕ block) (closing : ℕ) (rest : Tree ℕ (items procedure)) : Type 0 where
     pub listed : List (TypedParameter Name)
     pub pars : parameters_of (typed_by_name noted) j (mapped text value (declares_procedure x fs b closing)) ≡ listed
@@ -429,7 +429,7 @@ outermost-descends = (6, refl, omega arith, (5, refl, omega arith, (4, refl, ome
 outermost-below : TypedBelow 7 (typed_outermost as_names)
 outermost-below = (lit< tt, (lit< tt, (lit< tt, (lit< tt, (lit< tt, (lit< tt, (lit< tt, tt)))))))
 
--- each binding of a well-typed module has the object of its ordinal
+-- Each binding of a well-typed module has the object of its ordinal.
 pub bindings_right : (r : Resolution) → WellTyped (named_tree_of r.module_read) → Right (declared_object (named_tree_of r.module_read)) (module_bindings as_labels (numbered (named_tree_of r.module_read)))
 unfolding WellTyped fits_over
 bindings_right r fits =

@@ -17,7 +17,7 @@ pub owners_split : (at : ℕ → Option ℕ) (xs ys : List (ℕ × Option ℕ)) 
 owners_split at [] ys h = (tt, h)
 owners_split at (x ∷ xs) ys h = let rest = owners_split at xs ys h.1 in ((h.0, rest.0), rest.1)
 
--- states that no identifier in a list is a field's
+-- holds if no identifier in a list has an owner
 abbrev AllNone : (ℕ → Option ℕ) → List (Role × ℕ) → Type 0
 AllNone at [] = Unit {0}
 AllNone at (x ∷ xs) = (at x.1 ≡ None) × AllNone at xs
@@ -134,11 +134,11 @@ unowned-mapped l at text value r (is_module a b c) h =
     let s0 = none_split at (identifiers r b) ((role.ModuleName, c) ∷ []) h.1 in
     λ i. is_module (of_records l (sym h.0 i) (text a)) (unowned-mapped l at text value r b s0.0 i) (of_records l (sym s0.1.0 i) (text c))
 
--- a part without fields
+-- Rewriting a part without fields changes nothing.
 pub unowned-all : (l : ℕ → Name → Name) (at : ℕ → Option ℕ) (text : ℕ → Name) (value : ℕ → ℕ) {s : Sort} (t : Tree ℕ s) → HasOwners at (unowned t) → mapped text value t ≡ mapped (λ j. of_records l (at j) (text j)) value t
 unowned-all l at text value t h = unowned-mapped l at text value role.Declaring t (all_none at (identifiers role.Declaring t) h)
 
--- states that names have values of the same types, by name and by token
+-- holds if names have values of the same types by name and by token
 abbrev pub Alike : {P : Type 0} → Typed Name → Meanings ℕ Shape P → List ℕ → Type 0
 Alike meaning m [] = Unit {0}
 Alike meaning m (x ∷ xs) = (object_type (meaning.object_for (m.written x)) ≡ object_type (m.object_for x)) × Alike meaning m xs
@@ -173,8 +173,7 @@ following-mapped m value s (declares_variables a) = refl
 following-mapped m value s (declares_procedure a b c d) = refl
 following-mapped m value s (begins a) = refl
 
--- each selected name with the ordinal of the record before it, whether or not that record has the
--- field
+-- returns each selected name with the ordinal of the record before it, whether or not that record has the field
 abbrev pub recorded : {P : Type 0} {s : Sort} → Meanings ℕ Shape P → Option Shape → Tree ℕ s → List (ℕ × Option ℕ)
 recorded m s none = []
 recorded m s (one a) = recorded m None a
@@ -208,7 +207,7 @@ recorded m s (else_branch a) = recorded m None a
 recorded m s (begins a) = recorded m None a
 recorded m s t = unowned t
 
--- the statements of a block, and their parts
+-- Rewriting the fields in a part of a statement is the same as rewriting each token according to the table.
 pub recorded-mapped : {P : Type 0} (l : ℕ → Name → Name) (at : ℕ → Option ℕ) (meaning : Typed Name) (m : Meanings ℕ Shape P) (value : ℕ → ℕ) (s : Option Shape) {sort : Sort} (t : Tree ℕ sort)
     → HasOwners at (recorded m s t) → Alike meaning m (occurrences t) → refield (of_records l) meaning s (mapped m.written value t) ≡ mapped (λ j. of_records l (at j) (m.written j)) value t
 recorded-mapped l at meaning m value s none h e = refl
@@ -303,7 +302,7 @@ recorded-mapped l at meaning m value s (begins a) h e = λ i. begins (recorded-m
 recorded-mapped l at meaning m value s (has_body a b) h e = unowned-all l at m.written value (has_body a b) h
 recorded-mapped l at meaning m value s (is_module a b c) h e = unowned-all l at m.written value (is_module a b c) h
 
--- states that the values of names have the same types; the result depends on nothing else
+-- holds if the values of names have the same types in both meanings
 abbrev pub SameTypes : {P Q : Type 0} → Meanings ℕ Shape P → Meanings ℕ Shape Q → List ℕ → Type 0
 SameTypes m n [] = Unit {0}
 SameTypes m n (x ∷ xs) = (object_type (m.object_for x) ≡ object_type (n.object_for x)) × SameTypes m n xs

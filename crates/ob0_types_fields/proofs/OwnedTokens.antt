@@ -1,5 +1,5 @@
--- Each identifier of a module is listed once with its owner, in text order. So a table after
--- entering the fields has all owners.
+-- Each identifier of a module is listed once with its owner, in text order. So entering the fields in a table gives all
+-- owners.
 use Rattle.std.proofs.Common.{◌≡◌, ◌≢◌, ℕ, suc, ◌+◌, ◌<◌, ◌≤◌, List, [], ◌∷◌, ◌++◌, map, length, replicate, set, Some, None, Option, refl, ap, ◌∙◌, sym, subst, arith, le_refl, get_or-set_other, get_or-set_same}
 use Rattle.std.proofs.Math.ListN.{length-set}
 use Rattle.std.proofs.lemmas.List.{get_or-replicate, length-replicate, map-append}
@@ -176,7 +176,7 @@ module-tokens m (is_module x b closing) =
 
 -- ---- the table
 
--- entries below are unchanged
+-- Entries below the first entered token are unchanged.
 kept_below : (xs : List (ℕ × Option ℕ)) (table : List (Option ℕ)) (low high i : ℕ) → Ascending low (tokens xs) high → i < low → ordinal_in (with_fields_at table (fields_among xs)) i ≡ ordinal_in table i
 kept_below [] table low high i ascend below = refl
 kept_below ((x, None) ∷ xs) table low high i ascend below = kept_below xs table (x + 1) high i ascend.1 (omega (arith, ascend.0, below))
@@ -201,7 +201,7 @@ fields_are_identifiers ((x, Some k) ∷ xs) table low high ascend within vacant 
       fields_are_identifiers xs next (x + 1) high ascend.1 still (λ i l u. let other : i ≢ x = omega (arith, l) in get_or-set_other table x i (Some k) None other ∙ vacant i (omega (arith, l, ascend.0)) u),
     )
 
--- the empty table, with one entry per token, after entering the fields of a module
+-- returns the table of owners: the empty table, with one entry per token, in which the fields of a module are entered
 abbrev pub with_owners : Resolution → List (Option ℕ)
 with_owners r = with_fields_at (replicate (length r.module_read.source.tokens) None) (fields_among (owned_tokens r))
 

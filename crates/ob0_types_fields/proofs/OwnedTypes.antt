@@ -12,7 +12,7 @@ use Rattle.ob0_types_fields.specs.Owners.{of_records}
 use Rattle.ob0_types_fields.specs.Owned.{HasOwners, owned_formals, owned_group, owned_groups, owned_section, owned_sections, owned_type, owned_type_section, owned_types, owned_variable_section, owned_variables, unowned}
 use Rattle.ob0_types_fields.proofs.OwnedStatements.{owners_split, unowned-all}
 
--- the number of words ARRAY and RECORD in a tree doesn't depend on the representation of its names
+-- The number of words ARRAY and RECORD in a tree doesn't depend on the representation of its names.
 module _ {M : Type 0} (f : ℕ → M) (g : ℕ → ℕ) where
   mutual
     pub counted_type : (t : Tree ℕ written_type) → constructors (mapped f g t) ≡ constructors t

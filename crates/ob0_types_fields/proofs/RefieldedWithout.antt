@@ -1,4 +1,4 @@
--- Rewriting the fields of a module without some statements: these statements don't affect the rest.
+-- Rewriting the fields of a module without some statements is rewriting the module and leaving out these statements.
 use Rattle.std.proofs.Common.{◌≡◌, ℕ, zero, suc, ◌+◌, [], ◌∷◌, None, refl, sym, ap}
 use Rattle.ob0_language_fields.specs.Fields.{FieldNames, parameters_of, refield, refield_block, refield_formals, refield_procedure, refield_procedures, refield_type_section, refield_variable_section, refielded, types_after_heading, types_after_procedures, types_after_variables}
 use Rattle.ob0_language_names.specs.Names.{Name, as_names}
@@ -9,7 +9,7 @@ use Rattle.ob0_scope_table.specs.BodyReplaced.{Way, block_without, procedures_wi
 use Rattle.ob0_tree.specs.Tree.{Tree, block, declares, declares_procedure, end, has_body, is_module, item, items, module_text, more, procedure}
 use Rattle.ob0_types_fields.proofs.OwnedAround.{procedure_counted}
 
--- the meanings of names after procedures
+-- Leaving out the statements of a procedure doesn't change the meanings of names after the procedures.
 same_after : (env : TypeEnvironment Name) (k j : ℕ) (way : Way) (ps : Tree Name (items procedure)) → types_after_procedures env k (procedures_without j way ps) ≡ types_after_procedures env k ps
 same_after env k zero way end = refl
 same_after env k (suc j) way end = refl

@@ -1,5 +1,4 @@
--- Identifiers in text order around a closing name: those before it and those after it, and the
--- fields among them.
+-- Identifiers in text order, and the fields among them, are split uniquely around a closing name.
 use Rattle.std.proofs.Common.{◌≡◌, ℕ, ◌+◌, ◌<◌, ◌≤◌, Bool, true, false, if◌then◌else◌, List, [], ◌∷◌, ◌++◌, Some, None, Option, unwrap_or, refl, ap, ◌∙◌, arith, le_refl, append-nil}
 use Rattle.std.proofs.lemmas.List.Elements.{filter-append}
 use Rattle.std.specs.List.{AllByRecursion, filter}
@@ -40,7 +39,7 @@ all_between low (x ∷ xs) high h =
       weaker (Between (x.0 + 1) high) (Between low high) (λ y b. (omega (arith, b.0, h.0), b.1)) xs (all_between (x.0 + 1) xs high h.1),
     )
 
--- states which is the first token of some identifiers
+-- holds if the list of identifiers begins with the token `first`
 abbrev BeginsAt : ℕ → List (ℕ × Option ℕ) → Type 0
 BeginsAt first [] = ⊥
 BeginsAt first (x ∷ xs) = x.0 ≡ first
@@ -59,8 +58,8 @@ from_first : (low first : ℕ) (xs : List (ℕ × Option ℕ)) (high : ℕ) → 
 from_first low first [] high b h = absurd b
 from_first low first (x ∷ xs) high b h = (omega (arith, b, h.0), (omega (arith, b), h.1))
 
--- three lists: identifiers before a first one, from it up to a closing name, and after the closing
--- name
+-- Holds if three lists have tokens in these ranges: before the token `first`, from it up to the closing name, and after
+-- the closing name.
 pub record AreBetween (before inner after : List (ℕ × Option ℕ)) (first closing top : ℕ) : Type 0 where
   pub below : AllByRecursion (λ x. x.0 < first) before
   pub inside : AllByRecursion (Between first closing) inner
@@ -102,8 +101,8 @@ abbrev tail_of : List (ℕ × Option ℕ) → List (ℕ × Option ℕ)
 tail_of [] = []
 tail_of (x ∷ xs) = xs
 
--- the identifiers before and after the one with this token are determined by the whole list, if
--- those before it have lower tokens
+-- The whole list determines the identifiers before and after a token, if the identifiers before the token have lower
+-- tokens.
 module _ (c : ℕ) (o : Option ℕ) where
   pub same_seam : (xs us ys vs : List (ℕ × Option ℕ)) → AllByRecursion (λ x. x.0 < c) xs → AllByRecursion (λ x. x.0 < c) us → xs ++ ((c, o) ∷ ys) ≡ us ++ ((c, o) ∷ vs) → (xs ≡ us) × (ys ≡ vs)
   same_seam [] [] ys vs h g e = (refl, ap tail_of e)
@@ -129,7 +128,7 @@ module _ {X : Type 0} (p : X → Bool) where
   drops [] h = refl
   drops (x ∷ xs) h = (λ i. if h.0 i then x ∷ filter p xs else filter p xs) ∙ drops xs h.1
 
-  -- only the first or the last of three parts
+  -- Filtering three joined lists keeps only the first or the last, if the test passes only for that list.
   pub keeps_first : (xs ys zs : List X) → AllByRecursion (λ x. p x ≡ true) xs → AllByRecursion (λ x. p x ≡ false) ys → AllByRecursion (λ x. p x ≡ false) zs → filter p (xs ++ (ys ++ zs)) ≡ xs
   keeps_first xs ys zs h g f =
       filter-append p xs (ys ++ zs) ∙ ((λ i. keeps xs h i ++ (filter-append p ys zs ∙ (λ j. drops ys g j ++ drops zs f j)) i) ∙ append-nil xs)
@@ -137,11 +136,11 @@ module _ {X : Type 0} (p : X → Bool) where
   pub keeps_last : (xs ys zs : List X) → AllByRecursion (λ x. p x ≡ false) xs → AllByRecursion (λ x. p x ≡ false) ys → AllByRecursion (λ x. p x ≡ true) zs → filter p (xs ++ (ys ++ zs)) ≡ zs
   keeps_last xs ys zs h g f = filter-append p xs (ys ++ zs) ∙ (λ i. drops xs h i ++ (filter-append p ys zs ∙ (λ j. drops ys g j ++ keeps zs f j)) i)
 
--- the fields of three parts, one after the other
+-- The fields among three joined lists are the fields of each, joined.
 pub fields_around : (before inner after : List (ℕ × Option ℕ)) (closing : ℕ) → fields_among (before ++ (inner ++ ((closing, None) ∷ after))) ≡ fields_among before ++ (fields_among inner ++ fields_among after)
 fields_around before inner after closing = among-append before (inner ++ ((closing, None) ∷ after)) ∙ ap (λ l. fields_among before ++ l) (among-append inner ((closing, None) ∷ after))
 
--- all fields are at or after the first token
+-- All fields are at or after token 0.
 pub all_from_start : (xs : List FieldName) → fields_from 0 xs ≡ xs
 all_from_start [] = refl
 all_from_start (x ∷ xs) = (λ i. if le_true 0 x.token (omega arith) i then x ∷ fields_from 0 xs else fields_from 0 xs) ∙ ap (λ l. x ∷ l) (all_from_start xs)

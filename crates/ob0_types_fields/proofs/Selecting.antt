@@ -1,6 +1,6 @@
--- In statements that fit, each selected name is a field of the record before it. `recorded` lists a
--- selector with the record before it, whether or not that has the field; the table of owners
--- requires the field. In statements that fit, both give the same.
+-- Each selected name in statements that fit is a field of the record before it. `recorded` lists a selector with the
+-- record before it, whether or not that record has the field. The list of owners requires the field. In statements that
+-- fit, both lists are the same.
 use Rattle.std.proofs.Common.{◌≡◌, ℕ, suc, true, false, ◌&&◌, [], ◌∷◌, ◌++◌, if◌then◌else◌, Some, None, Option, option_and_then, option_map, sym, refl, ap, subst}
 use Rattle.ob0_tree.specs.Tree.{Tree, addend, adds, arguments, assigns, begins, body, branches, calls, compares, designator, else_branch, else_part, elsif_branch, elsif_part, empty, end, expression, factor, field, further_argument, further_statement, index, integer, items, mapped, maybe, more, multiplier, multiplies, negation, no_arguments, none, one, parenthesised, product, relates, repeat_loop, runs, selector, sequence, simple, some_arguments, statement, sum, term, then_argument, then_statement, while_loop}
 use Rattle.ob0_language_names.specs.Names.{Name, as_names, same_name}

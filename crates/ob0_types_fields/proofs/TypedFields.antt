@@ -1,7 +1,7 @@
--- In a well-typed module the field of each identifier has a type. A selected field is declared, so
--- only the declarations of records are considered. `Has made k ordinal x` states that the type with
--- this ordinal has the field x; the first of the types `made` has the ordinal k. A record declares
--- a field once, so the fields of a group can be looked up in the whole record.
+-- The field of each identifier in a well-typed module has a type. A selected field is declared, so only the
+-- declarations of records are considered. `Has made k ordinal x` states that the type with this ordinal has the field
+-- x; the first of the types `made` has the ordinal k. A record declares a field once, so the fields of a group can be
+-- looked up in the whole record.
 use Rattle.std.proofs.Common.{◌≡◌, ◌⊎◌, inl, inr, ℕ, suc, ◌+◌, ◌<◌, ◌==◌, Bool, true, false, ◌&&◌, ◌||◌, not, if◌then◌else◌, nat_le, List, [], ◌∷◌, ◌++◌, map, length, get_or, is_some, Some, None, Option, option_map, option_and_then, refl, sym, ap, ◌∙◌, subst, true≢false, arith, length-append, eqb-true}
 use Rattle.std.proofs.lemmas.Bool.{and_parts, or_right}
 use Rattle.std.proofs.lemmas.List.{get_or-append-add, get_or_append_left}
@@ -174,8 +174,7 @@ module _ (r : Resolution) where
 
 -- ---- fields of the constructed types
 
--- States that the type with this ordinal has a field with the name; the first of these types has
--- the ordinal k.
+-- Holds if the type with this ordinal has a field with this name. The first of the types `made` has the ordinal `k`.
 pub record Has (made : List (Option Shape)) (k ordinal : ℕ) (x : Name) : Type 0 where
   pub place : ℕ
   pub is_at : ordinal ≡ k + place
@@ -219,7 +218,7 @@ module _ (r : Resolution) where
   abbrev value : ℕ → ℕ
   value x = value_at r.module_read.source x
 
-  -- the spelling of a field's name
+  -- The spelling of a field's label is the spelling of its token.
   written-text : (x : ℕ) → IsWritten (label_in r x) → label_text (label_in r x) ≡ text x
   written-text x h = go (ordinal_in r.ordinals x) h
     where
@@ -234,11 +233,11 @@ module _ (r : Resolution) where
   texts : (ns : Tree ℕ names) → AllWritten (names_listed (in_labels r ns)) → map label_text (names_listed (in_labels r ns)) ≡ names_listed (mapped text value ns)
   texts (listed x rest) h = λ i. written-text x h.0 i ∷ further-texts rest h.1 i
 
-  -- an identifier with the ordinal of its record
+  -- holds if the record of an identifier has a field with its name
   abbrev HasField : List (Option Shape) → ℕ → FieldName → Type 0
   HasField made k x = Has made k x.owner (text x.token)
 
-  -- a field of the record itself, or of a type within it
+  -- holds if an identifier is a field of the record itself, or of a type within it
   abbrev InRecord : Shape → ℕ → List (Option Shape) → ℕ → FieldName → Type 0
   InRecord s j made k x = ((x.owner ≡ j) × (is_some (typed_field_named s (text x.token)) ≡ true)) ⊎ HasField made k x
 
@@ -254,7 +253,7 @@ module _ (r : Resolution) where
   of-record s j made x (inl own) = record { place = 0; is_at = omega (arith, own.0); within = omega arith; typed = own.1 }
   of-record s j made x (inr h) = has-next (Some s) made j x.owner (text x.token) h
 
-  -- two parts, one after the other
+  -- If the fields of two parts are fields of the parts' types, the fields of both are fields of all these types.
   parts-have : (made later : List (Option Shape)) (k n : ℕ) (xs ys : List FieldName) → n ≡ k + length made → AllByRecursion (HasField made k) xs → AllByRecursion (HasField later n) ys → AllByRecursion (HasField (made ++ later) k) (xs ++ ys)
   parts-have made later k n xs ys e a b =
       each-both (HasField (made ++ later) k) xs ys
@@ -269,7 +268,7 @@ module _ (r : Resolution) where
       (each-weaker (InRecord s j later n) (InRecord s j (made ++ later) k) (λ x h. in-later s j made later k x (subst (λ i. InRecord s j later i x) e h)) ys b)
 
   module _ (o : ℕ) (all : FieldShapes) where
-    -- a name that has a type in a record is a field of it
+    -- A name that has a type in a record is a field of the record.
     name-typed : (x : Name) (s : Shape) → shape_of_field all x ≡ Some s → is_some (typed_field_named (record_shape o all) x) ≡ true
     name-typed x s typed =
         let place = place-found all x s typed in
@@ -294,12 +293,11 @@ module _ (r : Resolution) where
       further-have rest (text x ∷ []) s has,
     )
 
-    -- the fields of a group are the same in the whole record as in the record from this group
-    -- onwards
+    -- holds if the names of a group have the same types in the whole record as in the record from this group onwards
     abbrev Agree : List Name → FieldShapes → Type 0
     Agree own fs = (y : Name) → is_among y own ≡ true → shape_of_field all y ≡ shape_of_field fs y
 
-  -- a name that isn't in a group is found in the fields after it
+  -- A name that isn't in a group is found in the fields after the group.
   following-group : (env : TypeEnvironment Label) (k : ℕ) (later fs : FieldShapes) (g : Tree ℕ fields) → denoted_group (meanings as_labels env) k later (in_labels r g) ≡ Some fs → GroupPlain (in_labels r g)
       → (others : List Name) → are_distinct (group_fields (mapped text value g) ++ others) ≡ true → (y : Name) → is_among y others ≡ true → shape_of_field fs y ≡ shape_of_field later y
   unfolding denoted
@@ -374,7 +372,8 @@ module _ (r : Resolution) where
 
   -- ---- declarations
 
-  -- the declared type is the one that its written type denotes
+  -- The fields that a declared type declares have types, because the declared type is the one that its written type
+  -- denotes.
   declared-have : (t : Option Shape) (u : Tree ℕ written_type) (s : Shape) → t ≡ Some s → Denotes r u s → TypePlain (in_labels r u) → fields_once (mapped text value u) ≡ true → (k : ℕ) → AllByRecursion (HasField (constructed (meaning r) t u) k) (marked_type k u)
   declared-have t u s is d plain once k =
       subst (λ z. AllByRecursion (HasField (constructed (meaning r) z u) k) (marked_type k u)) (sym is) (type-have d.env d.ordinal u s d.denotes plain once k)
@@ -460,7 +459,7 @@ module _ (r : Resolution) where
         parts-have (constructed (meaning r) None fs) (constructed (meaning r) None b) k n (marked_sections k (formal_sections fs)) (declared_in_block n b) (ap (λ c. k + c) (sym (formal_section-counted r fs)))
         (formal_section-have fs are_typed.0 plain.0 o2.0 k) (block-has (formal_names (formal_sections (mapped text value fs))) b are_typed.1 plain.1 o2.1 n)
 
-  -- all types that a module constructs
+  -- returns all types that a module constructs
   abbrev made_in_module : List (Option Shape)
   made_in_module = constructed (meaning r) None (tree_of r.module_read)
 
@@ -472,7 +471,7 @@ module _ (r : Resolution) where
       let once = and_parts (same_name (text r.module_read.name) (text r.module_read.closing)) (block_once [] (mapped text value b)) well.0 in
       block-has [] b (module-typed r is well) plain once.1 0
 
-  -- a field that some identifier declares
+  -- If an identifier declares a field of a record, the record's type has this field.
   declaring-has : (k : ℕ) (x : Name) (xs : List FieldName) → AllByRecursion (HasField made_in_module 0) xs → is_some (first (tokens_among r.module_read.source k x xs)) ≡ true → Has made_in_module 0 k x
   declaring-has k x [] all h = absurd (true≢false (sym h))
   declaring-has k x (y ∷ ys) all h = go (is_field r.module_read.source k x y) refl h (declaring-has k x ys all.1)

@@ -1,4 +1,4 @@
--- Fields written over others at the same tokens.
+-- Writing fields over the fields at the same tokens replaces exactly these fields.
 use Rattle.std.proofs.Common.{◌≡◌, ℕ, zero, suc, ◌+◌, ◌<◌, ◌≤◌, true, false, nat_lt, List, [], ◌∷◌, ◌++◌, length, get_or, slice_get, Option, Some, None, unwrap_or, ⊎_elim, refl, sym, ap, ◌∙◌, subst, arith, append_assoc, length-append}
 use Rattle.std.proofs.Math.ListN.{get_or-map}
 use Rattle.std.proofs.Math.Seq.{set-append_seam}
@@ -14,7 +14,7 @@ pub past_end : (xs : List FieldName) (k : ℕ) (ys : List FieldName) → length 
 past_end xs k [] le = refl
 past_end xs k (y ∷ ys) le = ap (λ l. written_over l (k + 1) ys) (set_past xs k y le) ∙ past_end xs (k + 1) ys (omega (arith, le))
 
--- the same number of fields after some others
+-- Overwriting as many fields as there are after a prefix replaces exactly these fields.
 over_as_many : (before old others after : List FieldName) → length old ≡ length others → written_over (before ++ (old ++ after)) (length before) others ≡ before ++ (others ++ after)
 over_as_many before [] [] after e = refl
 over_as_many before [] (y ∷ ys) after e = absurd (omega (arith, e))
@@ -44,7 +44,7 @@ tokens_rise (x ∷ xs) low top h zero (suc j) d le less =
     omega (arith, later, here)
 tokens_rise (x ∷ xs) low top h (suc i) (suc j) d le less = tokens_rise xs (x.token + 1) top h.1 i j d (omega (arith, le)) (omega (arith, less))
 
--- the tokens before a token in the middle
+-- The tokens before a token of an ascending list are lower.
 below_seam : (before : List ℕ) (x : ℕ) (rest : List ℕ) (low top i d : ℕ) → Ascending low (before ++ x ∷ rest) top → i < length before → get_or (before ++ x ∷ rest) i d < x
 below_seam [] x rest low top i d h less = absurd (omega (arith, less))
 below_seam (y ∷ before) x rest low top zero d h less = from_start before (y + 1) h.1 (omega arith)
@@ -78,14 +78,14 @@ module _ (all before others after : List FieldName) (h : HasOthersWithin all bef
   pub rise : IsNonDecreasingBy (λ x. x.token) all
   rise = tokens_rise all 0 h.top h.in_order
 
-  -- nothing is written if there are none
+  -- If there are no fields to write, the list is unchanged.
   none_over : others ≡ [] → all ≡ before ++ (others ++ after)
   none_over none =
       let empty : length h.old ≡ 0 = as_many ∙ ap length none in
       h.is ∙ (λ i. before ++ ((nil_from_length h.old empty ∙ sym none) i ++ after))
 
-  -- the first of them is at a position of the list: the fields before have lower tokens, and it
-  -- doesn't
+  -- The number of fields whose tokens are below the first written token is the length of `before`. The reason is that
+  -- exactly the fields in `before` have lower tokens.
   module _ (y : FieldName) (ys : List FieldName) (e : others ≡ y ∷ ys) where
     tokens_are : tokens_of all ≡ tokens_of before ++ y.token ∷ (tokens_of ys ++ tokens_of after)
     tokens_are =
@@ -105,13 +105,13 @@ module _ (all before others after : List FieldName) (h : HasOthersWithin all bef
     before_first : (k : ℕ) → IsPartitionPoint (λ x. nat_lt x.token y.token ≡ true) (λ x. nat_lt x.token y.token ≡ false) all k → k ≡ length before
     before_first k point = ⊎_elim
         (λ less.
-        -- then the one at k is before the first of them
+        -- otherwise the field at index `k` would come before the first written field
         let here = ltb-false (get_or all k y).token y.token (point.1 k y (omega arith) (omega (arith, less, long))) in
         let there = below_seam (tokens_of before) y.token (tokens_of ys ++ tokens_of after) 0 h.top k y.token in_order (omega (arith, less, length-map before (λ (x : FieldName). x.token))) in
         absurd (omega (arith, here, there, token_there k y)))
         (λ le. ⊎_elim
         (λ more.
-        -- then the first of them is before itself
+        -- otherwise the first written field would come before itself
         let here = ltb-true (get_or all (length before) y).token y.token (point.0 (length before) y (omega arith) more) in
         let there = ap (λ n. get_or (tokens_of before ++ y.token ∷ (tokens_of ys ++ tokens_of after)) n y.token) (sym (length-map before (λ (x : FieldName). x.token))) ∙ at_seam (tokens_of before) y.token (tokens_of ys ++ tokens_of after) y.token in
         absurd (omega (arith, here, there, token_there (length before) y)))

@@ -19,13 +19,12 @@ use Rattle.ob0_types_fields.specs.declared.field_name.FieldName.{FieldName}
 use Rattle.ob0_types_fields.specs.Identifiers.{field_identifiers}
 use Rattle.ob0_types_fields.specs.Owned.{token_objects}
 
--- the first name of a list
+-- returns the first name of a list
 abbrev pub first_listed : {N : Type 0} → Tree N names → N
 first_listed (listed x rest) = x
 
--- The types that the words ARRAY and RECORD of a tree construct, in text order. `t` is the type
--- that the tree denotes, or of which it is a part. Names that are declared together have the same
--- type.
+-- Returns the types that the words ARRAY and RECORD of a tree construct, in text order. `t` is the type that the tree
+-- denotes or is a part of. Names that are declared together have the same type.
 abbrev pub constructed : {N P : Type 0} {s : Sort}
     → Meanings N Shape P
     → Option Shape
@@ -59,7 +58,7 @@ constructed m t (has_body ds b) = constructed m t ds
 constructed m t (is_module name b closing) = constructed m t b
 constructed m t other = []
 
--- the type that the ARRAY or RECORD with the ordinal k constructs, from the objects of declarations
+-- returns the type that the ARRAY or RECORD with ordinal `k` constructs, according to the objects of declarations
 abbrev pub constructed_by : (ℕ → Option (Object Shape Signature))
     → Resolution
     → ℕ
@@ -67,18 +66,18 @@ abbrev pub constructed_by : (ℕ → Option (Object Shape Signature))
 constructed_by objects r k =
     get_or (constructed (token_objects objects r) None (tree_of r.module_read)) k None
 
--- a field of a type, and the field's own type
+-- a field of a type, with the field's own type
 pub record TypedField : Type 0 where
   pub field : FieldOf
   pub shape : Shape
 
--- the field of a type that has a name
+-- returns the field with this name in a type; None if there is none
 abbrev pub typed_field_named : Shape → Name → Option TypedField
 typed_field_named s x =
     option_and_then (λ f. option_map (λ t. record { field = f; shape = t }) (field_type s x))
     (field_selected s x)
 
--- the field of an identifier, from the objects of declarations; it is looked up in the RECORD that
+-- returns the field of an identifier, according to the objects of declarations; it is looked up in the RECORD that
 -- declares it
 abbrev pub typed_field_by : (ℕ → Option (Object Shape Signature))
     → Resolution
@@ -88,11 +87,11 @@ typed_field_by objects r x =
     option_and_then (λ s. typed_field_named s (text_at r.module_read.source x.token))
     (constructed_by objects r x.owner)
 
--- the field of an identifier of a module
+-- returns the field of an identifier of a module; None if it isn't found
 abbrev pub typed_field : Resolution → FieldName → Option TypedField
 typed_field r x = typed_field_by (declared_object (named_tree_of r.module_read)) r x
 
--- States that, in a well-typed module, the field of each identifier has a type.
+-- The field of each identifier in a well-typed module has a type.
 abbrev pub FieldsTyped : Type 0
 FieldsTyped =
     (r : Resolution) → IsResolution r → WellTyped (named_tree_of r.module_read)

@@ -1,5 +1,5 @@
--- The identifiers of one field: the one that declares it, and the ones that select it. The names of
--- these trees are tokens.
+-- The identifiers of one field: the identifier that declares it, and the identifiers that select it. The names of these
+-- trees are tokens.
 -- Rule: docs/PROTOCOL.md, Requests on documents 4 to 6.
 use Rattle.std.specs.Prelude.{◌≡◌, ℕ, ◌+◌, ◌==◌, ◌&&◌, Bool, true, not, is_some, List, [], ◌∷◌, ◌++◌, length, map, Option, Some, None, if◌then◌else◌}
 use Rattle.std.specs.List.{All, list_any, position_from}
@@ -20,15 +20,15 @@ use Rattle.ob0_types_fields.specs.declared.field_name.FieldName.{FieldName}
 use Rattle.ob0_types_fields.specs.Owned.{fields_among, marked_sections, marked_types, marked_variables, owned_tokens}
 use Rattle.ob0_language_fields.specs.Renaming.{field_renamed, is_duplicate_field}
 
--- the identifiers of fields in a module, in text order
+-- returns the identifiers of fields in a module, in text order
 abbrev pub field_identifiers : Resolution → List FieldName
 field_identifiers r = fields_among (owned_tokens r)
 
--- true for an identifier of the field x of the record k
+-- returns true if the identifier belongs to the field `x` of the record with ordinal `k`
 abbrev pub is_field : Scanned → ℕ → Name → FieldName → Bool
 is_field source k x found = (found.owner == k) && same_name (text_at source found.token) x
 
--- the tokens of that field in a list of identifiers
+-- returns the tokens of the field `x` of the record with ordinal `k` in a list of identifiers
 abbrev pub tokens_among : Scanned → ℕ → Name → List FieldName → List ℕ
 tokens_among source k x [] = []
 tokens_among source k x (found ∷ rest) =
@@ -36,33 +36,32 @@ tokens_among source k x (found ∷ rest) =
     then found.token ∷ tokens_among source k x rest
     else tokens_among source k x rest
 
--- all tokens of the field x of the record k
+-- returns all tokens of the field `x` of the record with ordinal `k`
 abbrev pub field_tokens : Resolution → ℕ → Name → List ℕ
 field_tokens r k x = tokens_among r.module_read.source k x (field_identifiers r)
 
--- the first identifier of a field that has a place in it or at its end
+-- returns the first identifier in the list that contains a byte offset or ends there
 abbrev pub field_on : Scanned → ℕ → List FieldName → Option FieldName
 field_on source offset [] = None
 field_on source offset (x ∷ xs) =
     if is_on offset (span_at source x.token) then Some x else field_on source offset xs
 
--- the tokens of identifiers
+-- returns the tokens of identifiers
 abbrev pub tokens_of : List FieldName → List ℕ
 tokens_of xs = map (λ x. x.token) xs
 
--- States that their tokens ascend, and are all tokens of the text.
+-- Holds if the tokens of the identifiers ascend and are tokens of the text.
 abbrev pub AreInTextOrder : Scanned → List FieldName → Type 0
 AreInTextOrder source xs = Ascending 0 (tokens_of xs) (length source.tokens)
 
--- the identifier of a field at a place
+-- returns the identifier of a field that contains a byte offset or ends there
 abbrev pub field_at : Resolution → ℕ → Option FieldName
 field_at r offset = field_on r.module_read.source offset (field_identifiers r)
 
 -- ---- declaring identifiers
 
 abbrev mutual
-  -- the fields that the declarations of a block declare; k is the ordinal of the first ARRAY or
-  -- RECORD
+  -- returns the fields that the declarations of a block declare; `k` is the ordinal of its first ARRAY or RECORD
   pub declared_in_block : ℕ → Tree ℕ block → List FieldName
   declared_in_block k (has_body (declares cs ts vs ps) statements) =
       marked_types k (section_types ts)
@@ -70,38 +69,38 @@ abbrev mutual
       (section_variables vs)
       ++ declared_in_procedures (after_variables k (has_body (declares cs ts vs ps) statements)) ps)
 
-  -- the fields that procedures declare, in text order
+  -- returns the fields that procedures declare, in text order
   pub declared_in_procedures : ℕ → Tree ℕ (items procedure) → List FieldName
   declared_in_procedures k end = []
   declared_in_procedures k (more p rest) =
       declared_in_procedure k p ++ declared_in_procedures (k + procedure_constructors p) rest
 
-  -- the fields that a procedure declares: with its parameters, and in its block
+  -- returns the fields that a procedure declares: its parameters' fields, then its block's fields
   pub declared_in_procedure : ℕ → Tree ℕ (item procedure) → List FieldName
   declared_in_procedure k (declares_procedure x fs b closing) =
       marked_sections k (formal_sections fs)
       ++ declared_in_block (after_formals k (declares_procedure x fs b closing)) b
 
--- all fields that a module declares
+-- returns all fields that a module declares
 abbrev pub declared_fields : Parsed → List FieldName
 declared_fields m = declared_in_block 0 (module_block (tree_of m))
 
--- the first token of a list
+-- returns the first token of a list; None if the list is empty
 abbrev pub first : List ℕ → Option ℕ
 first [] = None
 first (token ∷ tokens) = Some token
 
--- the token that declares the field x of the record k
+-- returns the token that declares the field `x` of the record with ordinal `k`
 abbrev pub declaring_field : Parsed → ℕ → Name → Option ℕ
 declaring_field m k x = first (tokens_among m.source k x (declared_fields m))
 
--- the tokens in a list that declare the fields of the record k
+-- returns the tokens of the fields of the record with ordinal `k` in a list
 abbrev pub record_tokens : ℕ → List FieldName → List ℕ
 record_tokens k [] = []
 record_tokens k (found ∷ rest) =
     if found.owner == k then found.token ∷ record_tokens k rest else record_tokens k rest
 
--- the position of the field x among the fields of the record k, counted from 0
+-- returns the position of the field `x` among the fields of the record with ordinal `k`, counted from 0
 abbrev pub field_place : Parsed → ℕ → Name → Option ℕ
 field_place m k x =
     position_from (λ token. same_name (text_at m.source token) x) 0
@@ -109,8 +108,8 @@ field_place m k x =
 
 -- ---- laws
 
--- States that, in a well-typed module, renaming the field f of the record k to `new` puts the new
--- name at the tokens of that field.
+-- Renaming the field `f` of the record with ordinal `k` in a well-typed module changes the names at the tokens of that
+-- field to `new`. Nothing else changes.
 abbrev pub RenamedAtTokens : Type 0
 RenamedAtTokens =
     (r : Resolution) (k : ℕ) (f new : Name)
@@ -121,15 +120,15 @@ RenamedAtTokens =
     then new
     else text_at r.module_read.source i) (value_at r.module_read.source) (tree_of r.module_read)
 
--- States when another field of a record has the new name: the new name differs from the old one,
--- and a token declares a field of the record with it.
+-- A record has another field with the new name exactly if two conditions hold: the new name differs from the old one,
+-- and a token declares a field of the record with the new name.
 abbrev pub DuplicateByToken : Type 0
 DuplicateByToken =
     (m : Parsed) (k : ℕ) (f new : Name)
     → is_duplicate_field (named_tree_of m) k f new
     ≡ (not (same_name new f) && is_some (declaring_field m k new))
 
--- States that, in a well-typed module, the field of each identifier is declared by its record.
+-- The field of each identifier in a well-typed module is declared by its record.
 abbrev pub FieldsDeclared : Type 0
 FieldsDeclared =
     (r : Resolution) → IsResolution r → WellTyped (named_tree_of r.module_read)
@@ -137,7 +136,7 @@ FieldsDeclared =
     (λ x. is_some (declaring_field r.module_read x.owner (text_at r.module_read.source x.token))
     ≡ true) (field_identifiers r)
 
--- the tokens of the identifiers in the places of fields: declared in a record or selected
+-- returns the tokens of the identifiers in the places of fields, which are declared in a record or selected
 abbrev pub written_fields : List (Role × ℕ) → List ℕ
 written_fields [] = []
 written_fields ((role.FieldName, token) ∷ rest) = token ∷ written_fields rest
@@ -146,8 +145,7 @@ written_fields ((role.LookedUp, token) ∷ rest) = written_fields rest
 written_fields ((role.ClosingName, token) ∷ rest) = written_fields rest
 written_fields ((role.ModuleName, token) ∷ rest) = written_fields rest
 
--- States that, in a well-typed module, the list of fields has all identifiers in the places of
--- fields, in text order, and no others.
+-- The list of fields of a well-typed module has exactly the identifiers in the places of fields, in text order.
 abbrev pub FieldsListed : Type 0
 FieldsListed =
     (r : Resolution) → IsResolution r → WellTyped (named_tree_of r.module_read)

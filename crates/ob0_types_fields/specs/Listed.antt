@@ -12,16 +12,16 @@ use Rattle.ob0_types_fields.specs.declared.field_name.FieldName.{FieldName}
 use Rattle.ob0_types_fields.specs.Identifiers.{declared_fields, field_identifiers, tokens_of}
 use Rattle.ob0_types_fields.specs.Owned.{marked_module, token_objects}
 
--- identifiers of fields: the declaring ones, and all of them
+-- the identifiers of fields: the declaring identifiers, and all identifiers
 pub record Listed : Type 0 where
   pub declared : List FieldName
   pub all : List FieldName
 
--- all fields, or an empty list if no field is declared
+-- returns all fields, or an empty list if no field is declared
 abbrev pub if_declared : List FieldName → List FieldName → List FieldName
 if_declared declared all = if length declared == 0 then [] else all
 
--- the lists that the walks make, from a table with the object of each declaration
+-- returns the lists that the code's walks make, from a table with the object of each declaration
 abbrev pub listed_by : Tables → Resolution → Listed
 listed_by t r = record {
   declared = declared_fields r.module_read;
@@ -30,17 +30,17 @@ listed_by t r = record {
       (marked_module (token_objects (declared_in t) r) (tree_of r.module_read));
 }
 
--- states that the lists have the fields of a module
+-- holds if the lists have the fields of a module
 abbrev pub AreFields : Resolution → Listed → Type 0
 AreFields r f = (f.declared ≡ declared_fields r.module_read) × (f.all ≡ field_identifiers r)
 
--- a list after writing others over it, starting at a position
+-- returns a list whose items from a position onwards are overwritten by other items
 abbrev pub written_over : List FieldName → ℕ → List FieldName → List FieldName
 written_over xs k [] = xs
 written_over xs k (y ∷ ys) = written_over (set xs k y) (k + 1) ys
 
--- A list of fields in text order, whose fields between these two ends are at the same tokens as the
--- others.
+-- Holds if a list of fields is in text order and can be split into `before`, other fields and `after`. The other fields
+-- are at the same tokens as the fields in `others`.
 pub record HasOthersWithin (all before others after : List FieldName) : Type 0 where
   pub old : List FieldName
   pub top : ℕ
@@ -48,22 +48,22 @@ pub record HasOthersWithin (all before others after : List FieldName) : Type 0 w
   pub is : all ≡ before ++ (old ++ after)
   pub same : tokens_of all ≡ tokens_of (before ++ (others ++ after))
 
--- the fields of a list before a token
+-- returns the fields of a list whose tokens come before a token
 abbrev pub fields_before : ℕ → List FieldName → List FieldName
 fields_before token xs = filter (λ x. nat_lt x.token token) xs
 
--- the fields of a list at or after a token
+-- returns the fields of a list whose tokens are at or after a token
 abbrev pub fields_from : ℕ → List FieldName → List FieldName
 fields_from token xs = filter (λ x. nat_le token x.token) xs
 
--- the new index of a token that wasn't replaced, at most the largest index
+-- returns the new index of a token that wasn't replaced, at most 2^64 - 1
 abbrev pub place_now : SameTokens → ℕ → ℕ
 place_now s i = min (moved s i) (2 ^ 64 - 1)
 
--- a field's identifier at its new index
+-- returns a field's identifier at its new index
 abbrev pub field_now : SameTokens → FieldName → FieldName
 field_now s x = record { token = place_now s x.token; owner = x.owner }
 
--- the old index of a token after the replaced ones, at most the largest index
+-- returns the old index of a token after the replaced tokens, at most 2^64 - 1
 abbrev pub place_before : SameTokens → ℕ → ℕ
 place_before s i = min (i - s.new_suffix + s.old_suffix) (2 ^ 64 - 1)

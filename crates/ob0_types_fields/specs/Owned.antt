@@ -1,4 +1,4 @@
--- Each identifier of a text with the ordinal of its record if it is a field's, in text order. The
+-- The identifiers of a text, in text order, each with its owner: the ordinal of its record if it is a field's. The
 -- names of these trees are tokens.
 -- Rule: docs/LANGUAGE.md, Scopes 7.
 use Rattle.std.specs.Prelude.{◌≡◌, ℕ, suc, ◌+◌, List, [], ◌∷◌, ◌++◌, map, Some, None, Option, option_and_then, option_map, length, replicate, set}
@@ -20,15 +20,15 @@ use Rattle.ob0_language_values.specs.Values.{Shape, integer_shape}
 use Rattle.ob0_types_fields.specs.declared.field_name.FieldName.{FieldName}
 use Rattle.ob0_types_fields.specs.Owners.{AreOwners}
 
--- lists identifiers that aren't fields
+-- returns identifiers without an owner
 abbrev pub unowned_among : List (Role × ℕ) → List (ℕ × Option ℕ)
 unowned_among xs = map (λ x. (x.1, None)) xs
 
--- the identifiers of a part without fields
+-- returns the identifiers of a part that has no fields
 abbrev pub unowned : {s : Sort} → Tree ℕ s → List (ℕ × Option ℕ)
 unowned t = unowned_among (identifiers role.Declaring t)
 
--- the type after one more selector
+-- returns the type of a designator after one more selector
 abbrev pub after_selector : {P : Type 0} {i : Item}
     → Meanings ℕ Shape P
     → Option Shape
@@ -38,12 +38,12 @@ after_selector m s (field x) = option_and_then (λ t. field_type t (m.written x)
 after_selector m s (index e) = option_and_then (λ t. element_type t integer_shape) s
 after_selector m s _ = s
 
--- the ordinal of the record whose field a name selects
+-- returns the ordinal of the record whose field a name selects
 abbrev pub owner : Option Shape → Name → Option ℕ
 owner None x = None
 owner (Some s) x = option_map (λ f. f.ordinal) (field_selected s x)
 
--- the identifiers of a part of a statement; s is the type before the selectors
+-- returns the identifiers of a part of a statement with their owners; `s` is the type before the selectors
 abbrev pub owned : {P : Type 0} {s : Sort}
     → Meanings ℕ Shape P
     → Option Shape
@@ -83,72 +83,72 @@ owned m s (else_branch a) = owned m None a
 owned m s (begins a) = owned m None a
 owned m s t = unowned t
 
--- the identifiers of a type; k is the ordinal of its first ARRAY or RECORD, and r the ordinal of
--- the group's record
+-- Returns the identifiers of a type with their owners. `k` is the ordinal of the first ARRAY or RECORD of the part, and
+-- `r` the ordinal of the group's record.
 abbrev mutual
-  -- a type's name; for an array, the identifiers of its length and its elements; for a record, its
-  -- groups
+  -- returns the identifiers of a written type: its name, or the identifiers in an array's length and elements, or in a
+  -- record's groups
   pub owned_type : ℕ → Tree ℕ written_type → List (ℕ × Option ℕ)
   owned_type k (named_type x) = (x, None) ∷ []
   owned_type k (array_type e t) = unowned e ++ owned_type (suc k) t
   owned_type k (record_type g rest) =
       owned_group k (suc k) g ++ owned_groups k (suc k + group_constructors g) rest
 
-  -- the fields of a group, which belong to the record r, and the identifiers of their type
+  -- returns the fields of a group, which belong to the record `r`, and the identifiers of their type
   pub owned_group : ℕ → ℕ → Tree ℕ fields → List (ℕ × Option ℕ)
   owned_group r k no_fields = []
   owned_group r k (some_fields ns t) = map (λ x. (x, Some r)) (names_listed ns) ++ owned_type k t
 
-  -- further groups of fields of the record r
+  -- returns the identifiers of further groups of fields of the record `r`
   pub owned_groups : ℕ → ℕ → Tree ℕ (items further_fields) → List (ℕ × Option ℕ)
   owned_groups r k end = []
   owned_groups r k (more (then_fields g) rest) =
       owned_group r k g ++ owned_groups r (k + group_constructors g) rest
 
--- the identifiers of declarations of types
+-- returns the identifiers of type declarations
 abbrev pub owned_types : ℕ → Tree ℕ (items type_name) → List (ℕ × Option ℕ)
 owned_types k end = []
 owned_types k (more (declares_type x u) ds) =
     (x, None) ∷ (owned_type k u ++ owned_types (k + constructors u) ds)
 
--- the identifiers of a TYPE section
+-- returns the identifiers of a TYPE section
 abbrev pub owned_type_section : ℕ → Tree ℕ (maybe type_names) → List (ℕ × Option ℕ)
 owned_type_section k none = []
 owned_type_section k (one (declares_types ts)) = owned_types k ts
 
--- the identifiers of variables
+-- returns the identifiers of variable declarations
 abbrev pub owned_variables : ℕ → Tree ℕ (items variable) → List (ℕ × Option ℕ)
 owned_variables k end = []
 owned_variables k (more (declares_variable ns u) gs) =
     (unowned ns ++ owned_type k u) ++ owned_variables (k + constructors u) gs
 
--- the identifiers of a VAR section
+-- returns the identifiers of a VAR section
 abbrev pub owned_variable_section : ℕ → Tree ℕ (maybe variables) → List (ℕ × Option ℕ)
 owned_variable_section k none = []
 owned_variable_section k (one (declares_variables vs)) = owned_variables k vs
 
--- the identifiers of a section of parameters
+-- returns the identifiers of a section of parameters
 abbrev pub owned_section : ℕ → Tree ℕ section → List (ℕ × Option ℕ)
 owned_section k (value_section ns u) = unowned ns ++ owned_type k u
 owned_section k (variable_section ns u) = unowned ns ++ owned_type k u
 
--- the identifiers of further sections
+-- returns the identifiers of further sections of parameters
 abbrev pub owned_sections : ℕ → Tree ℕ (items further_section) → List (ℕ × Option ℕ)
 owned_sections k end = []
 owned_sections k (more (then_section f) fs) =
     owned_section k f ++ owned_sections (k + constructors (section_type f)) fs
 
--- the identifiers of formal parameters
+-- returns the identifiers of formal parameters
 abbrev pub owned_formals : ℕ → Tree ℕ (maybe formals) → List (ℕ × Option ℕ)
 owned_formals k none = []
 owned_formals k (one no_formals) = []
 owned_formals k (one (some_formals f fs)) =
     owned_section k f ++ owned_sections (k + constructors (section_type f)) fs
 
--- the identifiers of a block, of its procedures and of a procedure; k is the ordinal of the first
--- ARRAY or RECORD
+-- Returns the identifiers of a block, of its procedures and of a procedure with their owners. `k` is the ordinal of the
+-- first ARRAY or RECORD of the part.
 abbrev mutual
-  -- a block: its declarations, and then its statements
+  -- returns the identifiers of a block: of its declarations, and then of its statements
   pub owned_block : {P : Type 0} → Meanings ℕ Shape P → ℕ → Tree ℕ block → List (ℕ × Option ℕ)
   owned_block m k (has_body (declares cs ts vs ps) statements) =
       (unowned cs ++ (owned_type_section k ts
@@ -156,7 +156,7 @@ abbrev mutual
       ++ owned_procedures m (after_variables k (has_body (declares cs ts vs ps) statements)) ps)))
       ++ owned m None statements
 
-  -- the procedures of a block, in order
+  -- returns the identifiers of the procedures of a block, in text order
   pub owned_procedures : {P : Type 0}
       → Meanings ℕ Shape P
       → ℕ
@@ -166,7 +166,7 @@ abbrev mutual
   owned_procedures m k (more p rest) =
       owned_procedure m k p ++ owned_procedures m (k + procedure_constructors p) rest
 
-  -- a procedure: its name, its parameters, its block and its closing name
+  -- returns the identifiers of a procedure: its name, its parameters, its block and its closing name
   pub owned_procedure : {P : Type 0}
       → Meanings ℕ Shape P
       → ℕ
@@ -178,15 +178,15 @@ abbrev mutual
       ++ (owned_block m (after_formals k (declares_procedure x fs b closing)) b
       ++ ((closing, None) ∷ [])))
 
--- the identifiers of a module, each with the ordinal of its record if it is a field's
+-- returns the identifiers of a module, each with the ordinal of its record if it is a field's
 abbrev pub owned_module : {P : Type 0}
     → Meanings ℕ Shape P
     → Tree ℕ module_text
     → List (ℕ × Option ℕ)
 owned_module m (is_module x b closing) = (x, None) ∷ (owned_block m 0 b ++ ((closing, None) ∷ []))
 
--- The meanings of the names at tokens: each name is bound to one declaration, and has the object of
--- that declaration.
+-- Returns the meanings of the names at tokens. Each name is bound to one declaration and has the object of that
+-- declaration.
 abbrev pub token_objects : (ℕ → Option (Object Shape Signature))
     → Resolution
     → Meanings ℕ Shape Signature
@@ -197,20 +197,19 @@ token_objects objects r =
       written = λ token. text_at r.module_read.source token;
     }
 
--- the identifiers of a resolved module, each with the ordinal of its record if it is a field's
+-- returns the identifiers of a resolved module, each with the ordinal of its record if it is a field's
 abbrev pub owned_tokens : Resolution → List (ℕ × Option ℕ)
 owned_tokens r =
     owned_module (token_objects (declared_object (named_tree_of r.module_read)) r)
     (tree_of r.module_read)
 
--- states that a table has the listed owner at each token
+-- holds if a table has the listed owner at each token
 abbrev pub HasOwners : (ℕ → Option ℕ) → List (ℕ × Option ℕ) → Type 0
 HasOwners table [] = Unit {0}
 HasOwners table (x ∷ xs) = (table x.0 ≡ x.1) × HasOwners table xs
 
--- States that, in a well-typed module, a table with the listed owners at its tokens is a table of
--- owners. The reason is that at each place the environment gives a name the object of its
--- declaration.
+-- A table that has the listed owners at the tokens of a well-typed module is a table of its owners. The reason is that
+-- at each place the environment gives a name the object of its declaration.
 abbrev pub OwnersByDeclaration : Type 0
 OwnersByDeclaration =
     (r : Resolution) (owners : List (Option ℕ))
@@ -219,19 +218,19 @@ OwnersByDeclaration =
     → HasOwners (ordinal_in owners) (owned_tokens r)
     → AreOwners r.module_read owners
 
--- the identifiers in a list that are fields
+-- returns the identifiers in a list that have an owner, which are the fields
 abbrev pub fields_among : List (ℕ × Option ℕ) → List FieldName
 fields_among [] = []
 fields_among ((x, None) ∷ xs) = fields_among xs
 fields_among ((x, Some k) ∷ xs) = record { token = x; owner = k } ∷ fields_among xs
 
--- a table after entering these fields
+-- returns a table in which these fields are entered
 abbrev pub with_fields_at : List (Option ℕ) → List FieldName → List (Option ℕ)
 with_fields_at table [] = table
 with_fields_at table (f ∷ fs) = with_fields_at (set table f.token (Some f.owner)) fs
 
--- States that, in a well-typed module, entering the fields in the empty table, which has one entry
--- per token, gives a table of owners.
+-- Entering the fields of a well-typed module in the empty table, which has one entry per token, gives a table of its
+-- owners.
 abbrev pub OwnersOfFields : Type 0
 OwnersOfFields =
     (r : Resolution)
@@ -240,16 +239,16 @@ OwnersOfFields =
     → AreOwners r.module_read (with_fields_at (replicate (length r.module_read.source.tokens) None)
     (fields_among (owned_tokens r)))
 
--- ---- only the fields, as a walk finds them
+-- ---- only the fields, in the form that the code's walk finds
 
--- an identifier with the record whose field it is
+-- returns a list of one field if the identifier has an owner, otherwise an empty list
 abbrev pub marked_field : ℕ → Option ℕ → List FieldName
 marked_field x None = []
 marked_field x (Some k) = record { token = x; owner = k } ∷ []
 
--- the fields that statements select
+-- Returns the fields that statements select.
 abbrev mutual
-  -- the fields in a statement or a part of one, in text order
+  -- returns the fields in a statement or a part of one, in text order
   pub marked_tree : {P : Type 0} {s : Sort} → Meanings ℕ Shape P → Tree ℕ s → List FieldName
   marked_tree m none = []
   marked_tree m (one a) = marked_tree m a
@@ -284,7 +283,7 @@ abbrev mutual
   marked_tree m (begins a) = marked_tree m a
   marked_tree m t = []
 
-  -- the fields that a designator's selectors select, one after another, from a value of this type
+  -- returns the fields that a designator's selectors select, one after another, from a value of type `s`
   pub marked_path : {P : Type 0}
       → Meanings ℕ Shape P
       → Option Shape
@@ -297,51 +296,51 @@ abbrev mutual
   marked_path m s (more (index e) rest) =
       marked_tree m e ++ marked_path m (option_and_then (λ t. element_type t integer_shape) s) rest
 
--- the fields of the record r that the names at some tokens declare
+-- returns the fields of the record `r` that the names at some tokens declare
 abbrev pub marked_names : ℕ → List ℕ → List FieldName
 marked_names r xs = map (λ x. record { token = x; owner = r }) xs
 
--- the fields that a written type declares; k is the ordinal of its first ARRAY or RECORD, and r the
--- ordinal of the group's record
+-- Returns the fields that a written type declares. `k` is the ordinal of the first ARRAY or RECORD of the part, and `r`
+-- the ordinal of the group's record.
 abbrev mutual
-  -- the fields of a written type; a length declares none
+  -- returns the fields that a written type declares; an array's length declares none
   pub marked_type : ℕ → Tree ℕ written_type → List FieldName
   marked_type k (named_type x) = []
   marked_type k (array_type e t) = marked_type (suc k) t
   marked_type k (record_type g rest) =
       marked_group k (suc k) g ++ marked_groups k (suc k + group_constructors g) rest
 
-  -- the fields of a group, which belong to the record r, and the fields that their type declares
+  -- returns the fields of a group, which belong to the record `r`, and the fields that their type declares
   pub marked_group : ℕ → ℕ → Tree ℕ fields → List FieldName
   marked_group r k no_fields = []
   marked_group r k (some_fields ns t) = marked_names r (names_listed ns) ++ marked_type k t
 
-  -- further groups of fields of the record r
+  -- returns the fields that further groups of the record `r` declare
   pub marked_groups : ℕ → ℕ → Tree ℕ (items further_fields) → List FieldName
   marked_groups r k end = []
   marked_groups r k (more (then_fields g) rest) =
       marked_group r k g ++ marked_groups r (k + group_constructors g) rest
 
--- the fields that declarations of types declare
+-- returns the fields that type declarations declare
 abbrev pub marked_types : ℕ → Tree ℕ (items type_name) → List FieldName
 marked_types k end = []
 marked_types k (more (declares_type x u) ds) =
     marked_type k u ++ marked_types (k + constructors u) ds
 
--- the fields that are declared with variables
+-- returns the fields that variable declarations declare
 abbrev pub marked_variables : ℕ → Tree ℕ (items variable) → List FieldName
 marked_variables k end = []
 marked_variables k (more (declares_variable ns u) gs) =
     marked_type k u ++ marked_variables (k + constructors u) gs
 
--- the fields that are declared with parameters
+-- returns the fields that sections of parameters declare
 abbrev pub marked_sections : ℕ → Tree ℕ (items further_section) → List FieldName
 marked_sections k end = []
 marked_sections k (more (then_section f) fs) =
     marked_type k (section_type f) ++ marked_sections (k + constructors (section_type f)) fs
 
 abbrev mutual
-  -- the fields that a block declares and selects; k is the ordinal of the first ARRAY or RECORD
+  -- returns the fields that a block declares and selects; `k` is the ordinal of its first ARRAY or RECORD
   pub marked_block : {P : Type 0} → Meanings ℕ Shape P → ℕ → Tree ℕ block → List FieldName
   marked_block m k (has_body (declares cs ts vs ps) statements) =
       (marked_types k (section_types ts)
@@ -350,7 +349,7 @@ abbrev mutual
       ++ marked_procedures m (after_variables k (has_body (declares cs ts vs ps) statements)) ps))
       ++ marked_tree m statements
 
-  -- the fields that procedures declare and select, in text order
+  -- returns the fields that procedures declare and select, in text order
   pub marked_procedures : {P : Type 0}
       → Meanings ℕ Shape P
       → ℕ
@@ -360,7 +359,7 @@ abbrev mutual
   marked_procedures m k (more p rest) =
       marked_procedure m k p ++ marked_procedures m (k + procedure_constructors p) rest
 
-  -- the fields of a procedure: those declared with its parameters, and then the fields of its block
+  -- returns the fields of a procedure: its parameters' fields, then its block's fields
   pub marked_procedure : {P : Type 0}
       → Meanings ℕ Shape P
       → ℕ
@@ -370,11 +369,11 @@ abbrev mutual
       marked_sections k (formal_sections fs)
       ++ marked_block m (after_formals k (declares_procedure x fs b closing)) b
 
--- the fields of a module
+-- returns the fields of a module
 abbrev pub marked_module : {P : Type 0} → Meanings ℕ Shape P → Tree ℕ module_text → List FieldName
 marked_module m (is_module x b closing) = marked_block m 0 b
 
--- States that the walk finds exactly the fields among a module's identifiers.
+-- The walk finds exactly the fields among a module's identifiers.
 abbrev pub MarkedFields : Type 0
 MarkedFields =
     (r : Resolution)

@@ -1,4 +1,4 @@
--- The identifiers of a text that are fields, and their records, by token.
+-- Tables with the record of each field identifier of a text, by token.
 -- Rule: none; for contracts: which record a field's token belongs to.
 use Rattle.std.specs.Prelude.{◌≡◌, ℕ, Bool, ◌&&◌, List, Option, Some, None, if◌then◌else◌}
 use Rattle.ob0_scan.specs.Scanned.{Scanned}
@@ -11,14 +11,13 @@ use Rattle.ob0_language_names.specs.Scopes.{same_ordinal}
 use Rattle.ob0_language_fields.specs.Fields.{FieldNames, refielded}
 use Rattle.ob0_language_fields.specs.Renaming.{field_renamed}
 
--- rewrites the fields whose record is known
+-- rewrites a field's name if its record is known
 abbrev pub of_records : (ℕ → Name → Name) → FieldNames
 of_records l None x = x
 of_records l (Some k) x = l k x
 
--- A table that has, at each token where a field is declared or selected, the ordinal of the field's
--- record. For every way of rewriting fields, the rewritten module is the tree in which each token
--- is rewritten according to the table.
+-- Holds if the table has, at each token that declares or selects a field, the ordinal of the field's record. This means
+-- that rewriting the fields of the module, in any way, is the same as rewriting each token according to the table.
 abbrev pub AreOwners : Parsed → List (Option ℕ) → Type 0
 AreOwners m owners =
     (l : ℕ → Name → Name)
@@ -26,12 +25,12 @@ AreOwners m owners =
     ≡ mapped (λ i. of_records l (ordinal_in owners i) (text_at m.source i)) (value_at m.source)
     (tree_of m)
 
--- true if the token declares or selects the field f of the record r
+-- returns true if the token declares or selects the field `f` of the record with ordinal `r`
 abbrev pub is_of_field : Scanned → List (Option ℕ) → ℕ → Name → ℕ → Bool
 is_of_field source owners r f i =
     same_ordinal (ordinal_in owners i) r && same_name (text_at source i) f
 
--- states that renaming a field gives the tree with the new name at the tokens of that field
+-- Renaming a field gives the tree with the new name at the tokens of that field.
 abbrev pub RenamedByToken : Type 0
 RenamedByToken =
     (m : Parsed) (owners : List (Option ℕ)) (r : ℕ) (f new : Name) → AreOwners m owners

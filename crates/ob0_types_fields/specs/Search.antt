@@ -1,4 +1,4 @@
--- The search for the ARRAY or RECORD with an ordinal among all of them in a module, in text order.
+-- The search for the ARRAY or RECORD with some ordinal among all such words of a module, in text order.
 -- Rule: none; for private contracts of a walk.
 use Rattle.std.specs.Prelude.{ℕ, ◌-◌, ◌==◌, List, [], ◌∷◌, Option, None, option_map, if◌then◌else◌}
 use Rattle.ob0_language_types.specs.Expressions.{Meanings}
@@ -14,43 +14,43 @@ use Rattle.ob0_types_fields.specs.declared.field_types.TypedField as code
 use Rattle.ob0_types_fields.specs.FieldTypes.{TypedField}
 use Rattle.ob0_types_fields.specs.Owned.{token_objects}
 
--- the type that was found, or the number of words ARRAY and RECORD before it
+-- the state of a search: the type that was found, or the number of words ARRAY and RECORD still to skip
 pub data SearchState : Type 0 where
   is_found : Option Shape → SearchState
   is_after : ℕ → SearchState
 
--- the search after one more ARRAY or RECORD, which constructs the type t
+-- returns the search after one more ARRAY or RECORD, which constructs the type `t`
 abbrev pub after_one : SearchState → Option Shape → SearchState
 after_one (is_found found) t = is_found found
 after_one (is_after n) t = if n == 0 then is_found t else is_after (n - 1)
 
--- the search after several
+-- returns the search after several words, which construct these types
 abbrev pub after_all : SearchState → List (Option Shape) → SearchState
 after_all s [] = s
 after_all s (t ∷ ts) = after_all (after_one s t) ts
 
--- the type that was found, if any
+-- returns the type that was found, if any
 abbrev pub found_type : SearchState → Option Shape
 found_type (is_found found) = found
 found_type (is_after n) = None
 
--- the meanings of names and the types, as the walk over the declarations has them
+-- returns the meanings of names according to the table of the walk
 abbrev pub meanings_in : ConstructorWalk → Meanings ℕ Shape Signature
 meanings_in w = token_objects (declared_in w.known.now) w.resolved.now
 
--- a type of the code, if any
+-- returns the shape of a type of the code, if there is a type
 abbrev pub type_in : ConstructorWalk → Option TypeId → Option Shape
 type_in w of = option_map (type_shape (shapes_of w.known.now)) of
 
--- a search of the code
+-- returns a search of the code as one of the definitions
 abbrev pub search_in : List Shape → Search → SearchState
 search_in shapes (search.Found of) = is_found (option_map (type_shape shapes) of)
 search_in shapes (search.Before n) = is_after n
 
--- a search of the walk
+-- returns a search of the walk as one of the definitions
 abbrev pub sought_in : ConstructorWalk → Search → SearchState
 sought_in w s = search_in (shapes_of w.known.now) s
 
--- a field of the code, with its type
+-- returns a field of the code, with its type as a shape
 abbrev pub typed_field_in : List Shape → code.TypedField → TypedField
 typed_field_in shapes f = record { field = f.field; shape = type_shape shapes f.of }

@@ -1,4 +1,4 @@
--- Definitions for the contracts of the walk over a module.
+-- Definitions for the contracts of the walk that finds the fields of a module.
 -- Rule: none; for private contracts of a walk.
 use Rattle.std.specs.Prelude.{ℕ, List, Option}
 use Rattle.ob0_tree.specs.Tree.{Tree, field, index, item, selector}
@@ -13,15 +13,15 @@ use Rattle.ob0_types_fields.specs.declared.field_name.FieldName.{FieldName}
 use Rattle.ob0_types_fields.specs.declared.owning.Owning.{Owning}
 use Rattle.ob0_types_fields.specs.Owned.{marked_field, marked_tree, owner, token_objects}
 
--- the meanings of identifiers at tokens, from the table of declarations
+-- returns the meanings of identifiers at tokens, according to the table of declarations
 abbrev pub meaning_in : Owning → Meanings ℕ Shape Signature
 meaning_in w = token_objects (declared_in w.known.now) w.resolved.now
 
--- the type of a record in the table
+-- returns the shape of a record in the table
 abbrev pub record_shape_in : Owning → RecordShape → Shape
 record_shape_in w r = made_shape (shapes_of w.known.now) (made.Record r)
 
--- the fields that one selector selects
+-- returns the fields that one selector selects from a value of type `s`
 abbrev pub marked_at : {P : Type 0}
     → Meanings ℕ Shape P
     → Option Shape

@@ -13,7 +13,7 @@ use ob0_tree::{
 };
 use std::alloc::AllocError;
 
-/// Adds the names of a group's fields with the ordinal of their record.
+/// Appends the names of a group's fields, each with `owner`, the ordinal of their record.
 fn names(found: &mut FieldTokens, owner: usize, listed: &Names) -> Result<(), AllocError>
     ensures { IfOk result (λ _. found.new.items
         ≡ found.old.items ++ marked_names owner (names_listed (names_of listed.now))) }
@@ -27,8 +27,8 @@ fn names(found: &mut FieldTokens, owner: usize, listed: &Names) -> Result<(), Al
     Ok(())
 }
 
-/// Returns the ordinal of the next ARRAY or RECORD, which is the number of them so far, and counts
-/// it. Returns an error if the count doesn't fit 64 bits; no text is long enough for that.
+/// Returns the ordinal of the next word ARRAY or RECORD, which is the number of such words so far, and counts the word.
+/// Returns an error if the count doesn't fit 64 bits. No text is long enough for that.
 fn next_ordinal(made: &mut usize) -> Result<usize, AllocError>
     ensures { MatchResult result (λ n. (n ≡ made.old) × (made.new ≡ made.old + 1))
         (λ _. 2 ^ 64 ≤ made.old + 1) }
@@ -43,7 +43,7 @@ fn next_ordinal(made: &mut usize) -> Result<usize, AllocError>
     }
 }
 
-/// Adds the fields that a written type declares. `made` counts the words ARRAY and RECORD so far.
+/// Appends the fields that a written type declares. `made` counts the words ARRAY and RECORD so far.
 #[cycle(types)]
 pub(crate) fn written_type(
     found: &mut FieldTokens,
@@ -101,8 +101,7 @@ fn fields(
     }
 }
 
-/// Adds the fields that the types of a block declare. `made` counts the words ARRAY and RECORD so
-/// far.
+/// Appends the fields that the TYPE section of a block declares. `made` counts the words ARRAY and RECORD so far.
 pub(crate) fn types(
     found: &mut FieldTokens,
     made: &mut usize,
@@ -123,8 +122,7 @@ pub(crate) fn types(
     Ok(())
 }
 
-/// Adds the fields that the variables of a block declare. `made` counts the words ARRAY and RECORD
-/// so far.
+/// Appends the fields that the VAR section of a block declares. `made` counts the words ARRAY and RECORD so far.
 pub(crate) fn variables(
     found: &mut FieldTokens,
     made: &mut usize,
@@ -146,7 +144,7 @@ pub(crate) fn variables(
     Ok(())
 }
 
-/// Adds the fields that formal parameters declare. `made` counts the words ARRAY and RECORD so far.
+/// Appends the fields that formal parameters declare. `made` counts the words ARRAY and RECORD so far.
 pub(crate) fn formals(
     found: &mut FieldTokens,
     made: &mut usize,

@@ -10,8 +10,7 @@ use crate::field_name::FieldTokens;
 use ob0_tree::{Block, Procedure};
 use std::alloc::AllocError;
 
-/// Adds the fields that a block and its procedures declare. `made` counts the words ARRAY and
-/// RECORD so far.
+/// Appends the fields that a block and its procedures declare. `made` counts the words ARRAY and RECORD so far.
 #[cycle(blocks)]
 pub(crate) fn block(found: &mut FieldTokens, made: &mut usize, b: &Block) -> Result<(), AllocError>
     ensures found { IfOk result (λ _. found.new.items

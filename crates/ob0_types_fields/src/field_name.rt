@@ -1,4 +1,4 @@
-//! An identifier of a field.
+//! Identifiers of fields.
 
 /// An identifier that declares or selects a field, with the field's record.
 #[derive(Clone, Copy)]

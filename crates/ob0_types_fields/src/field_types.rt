@@ -1,11 +1,10 @@
-//! Finds the field of an identifier, with the field's type, in the RECORD that declares it.
+//! Finds the field of an identifier, with the field's type, in the RECORD that declares the field.
 //!
-//! The types of fields aren't stored. The list has the ordinal of the field's record, so the type
-//! is looked up in that RECORD (`typed_field`). The walk visits the text's declarations together
-//! with their objects, and counts ARRAY and RECORD (`constructed`). It evaluates no array length
-//! again and needs no fact about the ordinals in the checker's table. It takes a search and returns
-//! the search after each part (`Search`), so all its contracts have the same form (`after_all`).
-//! Once the type is found, the remaining procedures are skipped.
+//! The types of fields aren't stored. The list of fields has the ordinal of each field's record, so the type is looked
+//! up in that RECORD (`typed_field`). The walk visits the text's declarations together with their objects, and counts
+//! the words ARRAY and RECORD (`constructed`). It evaluates no array length again, and its contracts don't depend on
+//! the ordinals in the checker's table. Each function takes a search and returns the search after its part (`Search`).
+//! So all contracts have the same form (`after_all`). When the type is found, the remaining procedures are skipped.
 
 ghost use Rattle.std.specs.Prelude.{◌≡◌, List, None, option_and_then, option_map};
 ghost use Rattle.ob0_tree.specs.View.{block_of, fields_of, formals_of, procedure_of, record_in, section_of, type_of, types_of, variables_of};
@@ -31,8 +30,8 @@ pub struct TypedField {
     pub of: TypeId,
 }
 
-/// Returns the field of an identifier and its type. They are looked up in the RECORD with the
-/// ordinal of the identifier's record, using the table of declarations.
+/// Returns the field of an identifier and its type. The field is looked up in the RECORD that declares it, using the
+/// table of declarations. Returns None if that RECORD or the field isn't found.
 pub fn typed_field<'a, 't>(
     known: &'a DeclarationTable,
     resolved: &'a Resolved<'t>,
@@ -48,7 +47,8 @@ pub fn typed_field<'a, 't>(
     Some(TypedField { field, of })
 }
 
-/// Returns the type that the ARRAY or RECORD with an ordinal constructs.
+/// Returns the type that the ARRAY or RECORD with this ordinal constructs. Returns None if there is no such word or its
+/// type is unknown.
 fn constructed_type<'a, 't>(
     known: &'a DeclarationTable,
     resolved: &'a Resolved<'t>,
@@ -64,17 +64,17 @@ fn constructed_type<'a, 't>(
     }
 }
 
-/// The search for an ARRAY or RECORD.
+/// The state of the search for an ARRAY or RECORD with some ordinal.
 #[derive(Clone, Copy)]
 enum Search {
-    /// The number of words ARRAY and RECORD before it.
+    /// The number of words ARRAY and RECORD still to skip.
     Before(usize),
-    /// The type that it constructs.
+    /// The type that the word constructs, or None if its type is unknown.
     Found(Option<TypeId>),
 }
 
 impl Search {
-    /// Continues the search after an ARRAY or RECORD that constructs this type.
+    /// Returns the search after one more ARRAY or RECORD, which constructs the type `of`.
     fn pass(self, of: Option<TypeId>) -> Search
         ensures { (shapes : List Shape)
             → search_in shapes result
@@ -101,7 +101,8 @@ struct ConstructorWalk<'a, 't> {
 }
 
 impl<'a, 't> ConstructorWalk<'a, 't> {
-    /// Returns the type of the type, variable or parameter that the name at a token declares.
+    /// Returns the type of the type, variable or parameter that the name at a token declares. Returns None if the name
+    /// declares something else.
     fn declared_type(&self, token: usize) -> Option<TypeId>
         ensures { type_in self.now result
             ≡ type_declared ((meanings_in self.now).object_for token) }
@@ -110,7 +111,7 @@ impl<'a, 't> ConstructorWalk<'a, 't> {
         self.known.declared_type(ordinal)
     }
 
-    /// Returns the type of an array's elements.
+    /// Returns the type of the elements of an array type. Returns None if the type isn't an array.
     fn element(&self, of: Option<TypeId>) -> Option<TypeId>
         ensures { type_in self.now result
             ≡ option_and_then (λ a. element_type a integer_shape) (type_in self.now of) }
@@ -118,7 +119,7 @@ impl<'a, 't> ConstructorWalk<'a, 't> {
         self.known.element(of?)
     }
 
-    /// Returns the type of the field with a name.
+    /// Returns the type of the field whose name is at a token. Returns None if the type is no record with such a field.
     fn field(&self, of: Option<TypeId>, name: usize) -> Option<TypeId>
         ensures { type_in self.now result
             ≡ option_and_then (λ r. field_type r ((meanings_in self.now).written name))
@@ -225,7 +226,7 @@ impl<'a, 't> ConstructorWalk<'a, 't> {
         self.written_type(search, self.declared_type(s.names.first), &s.written)
     }
 
-    /// Returns the search after the declarations of a block.
+    /// Returns the search after all declarations of a block and its procedures.
     #[cycle(blocks)]
     fn block(&self, search: Search, b: &Block) -> Search
         ensures { sought_in self.now result

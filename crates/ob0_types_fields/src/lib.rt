@@ -1,4 +1,4 @@
-//! Finds the identifiers of fields in a module, and the record of each.
+//! Finds the identifiers of fields in a module, and the record that declares each field.
 #![tactic(auto)]
 
 mod declared;

@@ -1,21 +1,20 @@
-//! The lists of a module's fields, and look-ups in them.
+//! Lists of the fields of a module, and look-ups in these lists.
 //!
-//! `check` of `ob0_types` makes the lists once for a module. It walks the declarations first. If
-//! they declare no field, the walk over the whole module is skipped, because every selected field
-//! is declared (`fields_declared`). So a module without RECORD costs only the walk over its
-//! declarations. The laws require `IsResolution` and `WellTyped`.
+//! `check` of `ob0_types` makes the lists once for each module. It walks the declarations first. If no field is
+//! declared, the walk over the whole module is skipped, because every selected field is declared (`fields_declared`).
+//! So a module without RECORD costs only the walk over its declarations. The laws require `IsResolution` and
+//! `WellTyped`.
 //!
-//! If the tokens of one body changed, its fields are found again and written over the old ones at
-//! the same tokens (`FieldList::with_body`). Nothing moves, because the fields of a well-typed
-//! module are all identifiers in the places of fields (`fields_listed`).
+//! If the tokens of one body changed, its fields are found again and replace the old ones at the same tokens
+//! (`FieldList::with_body`). No other field moves. The reason is that the fields of a well-typed module are all
+//! identifiers in the places of fields (`fields_listed`).
 //!
-//! If the statements of one body were replaced, perhaps with a different number of tokens, the
-//! fields before that body are kept. Those after it are moved to the new positions of their tokens,
-//! and the body's own fields are found again (`FieldList::with_new_body`).
+//! If the statements of one body were replaced, perhaps by a different number of tokens, the fields before that body
+//! are kept. The fields after it are moved to the new positions of their tokens. The body's own fields are found again
+//! (`FieldList::with_new_body`).
 //!
-//! A list doesn't hold its text. A token that the text doesn't have gets the empty span at the
-//! text's start, so the clause of `FieldList::at` has a premise (`AreInTextOrder`). A module's
-//! fields satisfy it (`fields_ascend`).
+//! A list doesn't hold its text. A token that the text doesn't have gets the empty span at the text's start. So the
+//! clause of `FieldList::at` has a premise (`AreInTextOrder`), which a module's fields satisfy (`fields_ascend`).
 
 ghost use Rattle.std.specs.Prelude.{◌≡◌, ◌++◌, List, [], false, true, map, nat_lt, IfOk, OnOk};
 ghost use Rattle.std.specs.List.{position_from};
@@ -41,7 +40,7 @@ use ob0_types_table::DeclarationTable;
 use std::alloc::{AllocError, Global};
 use std::marker::Model;
 
-/// The identifiers of fields of a module, in text order: the declaring ones, and all of them.
+/// The identifiers of fields in a module, in text order: the declaring identifiers, and all identifiers.
 #[derive(Drop)]
 pub struct FieldList {
     declared: FieldTokens,
@@ -67,8 +66,8 @@ impl FieldList {
         }
     }
 
-    /// Returns the fields of a module, using the table of its declarations. If no field is
-    /// declared, the search for selected fields is skipped.
+    /// Returns the lists of a module's fields, using the table of its declarations. If no field is declared, the search
+    /// for selected fields is skipped.
     pub fn of<'a, 't>(
         alloc: Global,
         known: &'a DeclarationTable,
@@ -81,9 +80,8 @@ impl FieldList {
         Ok(FieldList { declared, all })
     }
 
-    /// Returns the list after the statements of one body changed without changing their number of
-    /// tokens. The fields that these statements select are found again and replace the old ones at
-    /// their tokens.
+    /// Returns the lists after the tokens in the statements of one body changed, but not their number. The fields that
+    /// these statements select are found again and replace the old ones at their tokens.
     pub fn with_body<'a, 't>(
         self,
         alloc: Global,
@@ -107,10 +105,9 @@ impl FieldList {
         Ok(FieldList { declared, all })
     }
 
-    /// Returns the list after the statements of one body were replaced. Fields before the body's
-    /// first identifier are kept, the new statements' fields are found, and fields from the block's
-    /// closing name onwards are moved. `place` is the place of the new body. Token indexes saturate
-    /// at the largest value.
+    /// Returns the lists after the statements of one body were replaced. Fields before the body's first identifier are
+    /// kept, the fields in the new statements are found, and fields from the block's closing name onwards are moved.
+    /// `place` is the place of the new body. Token indexes saturate at the largest value.
     pub fn with_new_body<'a, 't>(
         self,
         alloc: Global,
@@ -137,8 +134,8 @@ impl FieldList {
         Ok(FieldList { declared, all })
     }
 
-    /// Returns the field identifier at a place, which is in the identifier or at its end. The
-    /// tokens must be the tokens of the text that has these fields.
+    /// Returns the field identifier at a place, as a byte offset. The place may be within the identifier or at its end.
+    /// `tokens` must be the tokens of the text that has these fields. Returns None if there is no such identifier.
     pub fn at(&self, tokens: &Tokens, offset: usize) -> Option<FieldName>
         ensures { AreInTextOrder tokens.now self.now.all
             → result ≡ field_on tokens.now offset self.now.all }
@@ -146,8 +143,8 @@ impl FieldList {
         field_on(tokens, offset, &self.all)
     }
 
-    /// Returns the tokens of the field with this name in a record, in text order: the declaring one
-    /// and all selecting ones.
+    /// Returns the tokens of the field with this name in a record, in text order. These are the declaring identifier
+    /// and all identifiers that select the field. `owner` is the ordinal of the record.
     pub fn tokens(
         &self,
         alloc: Global,
@@ -161,15 +158,16 @@ impl FieldList {
         tokens_among(alloc, tokens, &self.all, owner, name)
     }
 
-    /// Returns the token that declares the field with this name in a record.
+    /// Returns the token that declares the field with this name in the record with ordinal `owner`. Returns None if the
+    /// record has no such field.
     pub fn declaring(&self, tokens: &Tokens, owner: usize, name: &str) -> Option<usize>
         ensures { result ≡ first (tokens_among tokens.now owner name.now self.now.declared) }
     {
         first_among(tokens, &self.declared, owner, name)
     }
 
-    /// Returns the position of the field with this name among the fields of a record, counted from
-    /// 0.
+    /// Returns the position of the field with this name among the fields of a record, counted from 0. `owner` is the
+    /// ordinal of the record. Returns None if the record has no such field.
     pub fn place(&self, tokens: &Tokens, owner: usize, name: &str) -> Option<usize>
         ensures { result
             ≡ position_from (λ token. same_name (text_at tokens.now token) name.now) 0
@@ -179,7 +177,7 @@ impl FieldList {
     }
 }
 
-/// Replaces the fields of a list that are at the tokens of other fields.
+/// Replaces the fields of a list at the tokens of the fields in `found` by these.
 fn write_at_tokens(all: &mut FieldTokens, found: &[FieldName])
     ensures { (before after : List FieldName) → HasOthersWithin all.old.items before found.now after
         → all.new.items ≡ before ++ (found.now ++ after) }
@@ -193,7 +191,7 @@ fn write_at_tokens(all: &mut FieldTokens, found: &[FieldName])
     }
 }
 
-/// Returns the number of fields in a list that come before a token.
+/// Returns the number of fields in a list whose tokens come before a token.
 fn count_before(all: &[FieldName], token: usize) -> usize
     ensures { IsNonDecreasingBy (λ x. x.token) all.now
         → IsPartitionPoint (λ x. nat_lt x.token token ≡ true)
@@ -202,7 +200,8 @@ fn count_before(all: &[FieldName], token: usize) -> usize
     all.partition_point(|field| field.token < token)
 }
 
-/// Overwrites the fields of a list, starting at a position.
+/// Overwrites the fields of a list, starting at a position, by other fields. Fields that would go beyond its end are
+/// ignored.
 fn write_over(all: &mut FieldTokens, start: usize, found: &[FieldName])
     ensures { all.new.items ≡ written_over all.old.items start found.now }
 {
@@ -215,7 +214,7 @@ fn write_over(all: &mut FieldTokens, start: usize, found: &[FieldName])
     }
 }
 
-/// Returns the new index of a token that wasn't replaced.
+/// Returns the new index of a token that wasn't replaced, at most the largest value.
 fn place_now(token: usize, same: SameTokens) -> usize
     ensures { result ≡ place_now same token }
 {
@@ -228,7 +227,7 @@ fn place_now(token: usize, same: SameTokens) -> usize
     }
 }
 
-/// Returns the old index of a token after the replaced ones.
+/// Returns the old index of a token after the replaced tokens, at most the largest value.
 fn place_before(token: usize, same: SameTokens) -> usize
     ensures { result ≡ place_before same token }
 {
@@ -237,7 +236,7 @@ fn place_before(token: usize, same: SameTokens) -> usize
         .saturating_add(same.old_suffix)
 }
 
-/// Appends the fields that are before a token.
+/// Appends the fields whose tokens come before a token.
 fn add_before(found: &mut FieldTokens, fields: &[FieldName], token: usize) -> Result<(), AllocError>
     ensures { OnOk result (found.new.items ≡ found.old.items ++ fields_before token fields.now) }
 {
@@ -249,7 +248,7 @@ fn add_before(found: &mut FieldTokens, fields: &[FieldName], token: usize) -> Re
     Ok(())
 }
 
-/// Appends the fields at or after a token, with the new indexes of their tokens.
+/// Appends the fields whose tokens are at or after a token, with the new indexes of their tokens.
 fn add_moved(
     found: &mut FieldTokens,
     fields: &[FieldName],
@@ -281,7 +280,7 @@ fn declared_fields(alloc: Global, resolved: &Resolved<'_>) -> Result<FieldTokens
     Ok(found)
 }
 
-/// Returns all fields of the module. If no field is declared, the walk is skipped.
+/// Returns all fields of the module, or none if no field is declared. In that case the walk over the module is skipped.
 fn all_fields<'a, 't>(
     alloc: Global,
     known: &'a DeclarationTable,
@@ -300,7 +299,7 @@ fn all_fields<'a, 't>(
     }
 }
 
-/// Returns all fields of a module in text order, found by a walk.
+/// Returns all fields of a module, in text order.
 fn found_fields<'a, 't>(
     alloc: Global,
     known: &'a DeclarationTable,

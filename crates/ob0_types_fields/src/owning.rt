@@ -1,10 +1,10 @@
-//! Walks a module to find its fields: where records declare them, and where selectors select them.
+//! Walks a module to find its fields: the identifiers that declare them in records, and the identifiers that select
+//! them.
 //!
-//! The path of a designator is one loop that carries the type so far. It also visits the indexes,
-//! so all fields are found in text order. Constants and array lengths aren't visited. Parts that
-//! select nothing are skipped quickly: an expression with a single factor is treated as that
-//! factor, and the type of a designator without selectors isn't looked up. A selected name is
-//! looked up once, for its type.
+//! One loop visits the selectors of a designator and carries the type so far. It also visits the indexes, so all fields
+//! are found in text order. Constants and array lengths aren't visited. Parts that select nothing are skipped quickly.
+//! An expression with a single factor is treated as that factor. The type of a designator without selectors isn't
+//! looked up. A selected name is looked up once, for its type.
 
 ghost use Rattle.std.specs.Prelude.{◌≡◌, ◌++◌, ◌+◌, IfOk, Some, option_and_then, option_map};
 ghost use Rattle.ob0_tree.specs.View.{expression_of, compound_of, simple_of, term_of, factor_of, designator_of, selector_of, assignment_of, call_of, arguments_in, statement_of, if_of, elsifs_in, sequence_in, body_of, block_of, procedure_of};
@@ -34,8 +34,8 @@ pub(crate) struct Owning<'a, 't> {
 }
 
 impl<'a, 't> Owning<'a, 't> {
-    /// Returns the type of the variable, parameter or constant that the name at a token is bound
-    /// to.
+    /// Returns the type of the variable, parameter or constant that the name at a token is bound to. Returns None if
+    /// the name has another meaning or none.
     fn value_type(&self, token: usize) -> Option<TypeId>
         ensures { option_map (type_shape (shapes_of self.now.known.now)) result
             ≡ object_type ((meaning_in self.now).object_for token) }
@@ -51,7 +51,8 @@ impl<'a, 't> Owning<'a, 't> {
         }
     }
 
-    /// Adds the record of the field that a name selects, and returns the field's type.
+    /// Appends the field that a name selects from a value of type `base`, and returns the field's type. If there is no
+    /// such field, appends nothing and returns None.
     fn select(
         &self,
         found: &mut FieldTokens,
@@ -80,8 +81,8 @@ impl<'a, 't> Owning<'a, 't> {
         }
     }
 
-    /// Adds the field that a name selects from this record, and returns the field's type. The name
-    /// is looked up only once, for the type; the record gives the ordinal.
+    /// Appends the field that a name selects from this record, and returns the field's type. The name is looked up only
+    /// once, for the type; the record gives the ordinal. If there is no such field, appends nothing and returns None.
     fn select_in(
         &self,
         found: &mut FieldTokens,
@@ -107,7 +108,7 @@ impl<'a, 't> Owning<'a, 't> {
         }
     }
 
-    /// Returns the type of an array's elements.
+    /// Returns the type of the elements of an array type. Returns None if the type isn't an array.
     fn element(&self, base: Option<TypeId>) -> Option<TypeId>
         ensures { option_map (type_shape (shapes_of self.now.known.now)) result
             ≡ option_and_then (λ z. element_type z integer_shape)
@@ -119,7 +120,7 @@ impl<'a, 't> Owning<'a, 't> {
         }
     }
 
-    /// Adds the fields that an expression selects.
+    /// Appends the fields that an expression selects.
     #[cycle(expressions)]
     fn expression(&self, found: &mut FieldTokens, e: &Expression) -> Result<(), AllocError>
         ensures { IfOk result (λ _. found.new.items
@@ -195,7 +196,7 @@ impl<'a, 't> Owning<'a, 't> {
         Ok(())
     }
 
-    /// Adds the fields that a selector selects, and returns the type after it.
+    /// Appends the fields that a selector selects, and returns the type of the designator up to this selector.
     #[cycle(expressions)]
     fn selector(
         &self,
@@ -314,7 +315,7 @@ impl<'a, 't> Owning<'a, 't> {
         Ok(())
     }
 
-    /// Adds the fields that the statements of a block select.
+    /// Appends the fields that the statements of a block select.
     pub(crate) fn body(
         &self,
         found: &mut FieldTokens,
@@ -329,9 +330,8 @@ impl<'a, 't> Owning<'a, 't> {
         }
     }
 
-    /// Adds the fields of a block: first those that its declarations and procedures declare and
-    /// select, then the fields that its statements select. `made` counts the words ARRAY and RECORD
-    /// so far.
+    /// Appends the fields of a block. The fields that its declarations and procedures declare and select come first,
+    /// then the fields that its statements select. `made` counts the words ARRAY and RECORD so far.
     #[cycle(blocks)]
     pub(crate) fn block(
         &self,

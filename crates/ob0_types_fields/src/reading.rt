@@ -14,12 +14,13 @@ use ob0_scan::{Span, Tokens};
 use ob0_scope_table::{is_written, token_span};
 use std::alloc::{AllocError, Global};
 
-/// Returns the first identifier at a place. It is found by binary search: in text order, it is the
-/// first identifier that doesn't end before the place, if it contains the place.
+/// Returns the first identifier that contains a place or ends there, as a byte offset. It is found by binary search: in
+/// text order, it is the first identifier that doesn't end before the place, if it contains the place. Returns None if
+/// there is no such identifier.
 pub(crate) fn field_on(tokens: &Tokens, offset: usize, found: &[FieldName]) -> Option<FieldName>
     ensures { AreInTextOrder tokens.now found.now → result ≡ field_on tokens.now offset found.now }
 {
-    // The proof needs the contract of this call.
+    // The contract of this call gives the proof the invariant of the tokens.
     let _scanned = tokens.text();
     match found.get(ended_before(tokens, offset, found)) {
         Some(field) => if_on(tokens, offset, *field),
@@ -27,7 +28,7 @@ pub(crate) fn field_on(tokens: &Tokens, offset: usize, found: &[FieldName]) -> O
     }
 }
 
-/// Returns the number of identifiers that end before a place.
+/// Returns the number of identifiers that end before a byte offset.
 fn ended_before(tokens: &Tokens, offset: usize, found: &[FieldName]) -> usize
     ensures bound { result ≤ length found.now }
     ensures point { IsNonDecreasingBy (λ x. (span_at tokens.now x.token).end) found.now
@@ -37,7 +38,7 @@ fn ended_before(tokens: &Tokens, offset: usize, found: &[FieldName]) -> usize
     found.partition_point(|field| (token_span(tokens, field.token).end as usize) < offset)
 }
 
-/// Returns an identifier if it is at a place.
+/// Returns an identifier if it contains a place or ends there, otherwise None.
 fn if_on(tokens: &Tokens, offset: usize, field: FieldName) -> Option<FieldName>
     ensures { result ≡ (if is_on offset (span_at tokens.now field.token) then Some field else None) }
 {
@@ -54,7 +55,8 @@ fn is_on(offset: usize, span: Span) -> bool
     span.start as usize <= offset && offset <= span.end as usize
 }
 
-/// Returns the position of the field with this name among the fields of a record.
+/// Returns the position of the field with this name among the fields of the record with ordinal `owner`, counted from
+/// 0. Returns None if the record has no such field.
 pub(crate) fn place_among(
     tokens: &Tokens,
     fields: &[FieldName],
@@ -77,7 +79,7 @@ pub(crate) fn place_among(
     None
 }
 
-/// Returns the tokens of one field in a list.
+/// Returns the tokens in a list of the field with this name in the record with ordinal `owner`.
 pub(crate) fn tokens_among(
     alloc: Global,
     tokens: &Tokens,
@@ -97,7 +99,8 @@ pub(crate) fn tokens_among(
     Ok(found)
 }
 
-/// Returns the first token of one field in a list.
+/// Returns the first token in a list of the field with this name in the record with ordinal `owner`. Returns None if
+/// there is none.
 pub(crate) fn first_among(
     tokens: &Tokens,
     fields: &[FieldName],

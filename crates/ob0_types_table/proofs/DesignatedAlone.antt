@@ -1,5 +1,4 @@
--- Parts that fit: expressions that are only a designator, targets of assignments, calls, and
--- sequences.
+-- The designator of an expression that is only a designator is found through its parts.
 use Rattle.std.proofs.Common.{◌≡◌, ℕ, ◌<◌, List, [], ◌∷◌, length, Some, None, Option, option_map, refl, sym, ap, ◌∙◌, arith}
 use Rattle.ob0_tree.specs.Tree.{Tree, addend, comparison, compares, designator, end, expression, factor, integer, item, items, more, negation, none, one, parenthesised, product, selector, simple, sum, term}
 use Rattle.ob0_tree.specs.View.{addend_of, factor_of, items_of, multiplier_of}
@@ -48,7 +47,7 @@ module _ {N : Type 0} where
   compared_designated (sum None (product (parenthesised e) ms) rest) c = refl
   compared_designated (sum None (product (negation f) ms) rest) c = refl
 
--- the tests of the code
+-- The code's tests decide whether an expression is only a designator.
 pub signed_designated : (s : Option Sign) (t : Tree ℕ term) (rest : Tree ℕ (items addend)) (g : Sign) → s ≡ Some g → designator_of_simple (sum s t rest) ≡ None
 signed_designated s t rest g h = ap (λ s. designator_of_simple (sum s t rest)) h
 
@@ -68,7 +67,7 @@ pub multiplied_designated : (f : Factor) (xs : List Multiplier) → 0 < length x
 multiplied_designated f [] some = absurd (omega arith)
 multiplied_designated f (x ∷ xs) some = refl
 
--- a designator keeps its position in the labelled tree
+-- A tree with labels is only a designator exactly if the tree of tokens is.
 abbrev pub parts_in : Resolution → ℕ × Tree ℕ (items selector) → Label × Tree Label (items selector)
 parts_in r p = (label_in r p.0, in_labels r p.1)
 

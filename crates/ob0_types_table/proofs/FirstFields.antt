@@ -1,4 +1,4 @@
--- The first field of each name, in a map that is filled starting at the last field.
+-- A map that is filled starting at the last field has the first field of each name.
 use Rattle.std.proofs.Common.{◌≡◌, ℕ, suc, ◌+◌, ◌-◌, ◌<◌, ◌≤◌, Bool, true, false, cond, Option, Some, None, List, [], ◌∷◌, length, get_or, drop, option_map, refl, sym, ap, ◌∙◌, arith, string_bytes}
 use Rattle.std.proofs.lemmas.List.{drop_more}
 use Rattle.std.proofs.lemmas.Map.Text.{btree_map_updates_text}
@@ -30,7 +30,7 @@ first_from-shape shapes k (f ∷ fs) x =
     either_type shapes (same_name x (string_bytes f.name)) k f.of (first_from (suc k) fs x)
     ∙ ap (cond (same_name x (string_bytes f.name)) (Some (type_shape shapes f.of))) (first_from-shape shapes (suc k) fs x)
 
--- the first field with a name has its type
+-- The first field with a name has the type that is found for the name.
 pub first_from-type : (k : ℕ) (fs : List Field) (x : Name) → option_map (λ (e : FirstOfName). e.of) (first_from k fs x) ≡ first_field_type fs x
 first_from-type k [] x = refl
 first_from-type k (f ∷ fs) x =
@@ -53,7 +53,7 @@ none_before (Some i) = ap Some (omega arith)
 pub first-place : (shapes : List Shape) (fs : List Field) (x : Name) → option_map (λ (e : FirstOfName). e.place) (first_from 0 fs x) ≡ place_of_field (fields_shape shapes fs) x
 first-place shapes fs x = first_from-place shapes 0 fs x ∙ none_before (place_of_field (fields_shape shapes fs) x)
 
--- states that the map has the fields from a position onwards
+-- holds if the map has the fields from a position onwards
 pub record Filled (map : BTreeMap (String Global) FirstOfName) (fs : List Field) (left : ℕ) : Type 0 where
   pub index : IsIndexFrom map left (drop left fs)
   pub within : left ≤ length fs

@@ -1,4 +1,4 @@
--- The parts of sections, of procedures and of lists, in labelled trees.
+-- The parts of sections, procedures and lists are the same in trees with labels.
 use Rattle.std.proofs.Common.{◌≡◌, ℕ, ◌+◌, ◌<◌, Bool, true, false, cond, List, [], ◌∷◌, length, get_or, drop, refl, sym, ap, ◌∙◌}
 use Rattle.std.proofs.lemmas.List.{drop_more}
 use Rattle.ob0_tree.specs.declared.tree.Expression.{Expression}
@@ -22,7 +22,7 @@ section-names r s = by_mode s.by_reference
     by_mode true = refl
     by_mode false = refl
 
--- the mode of a section, with any function from the VAR mark to modes
+-- The mode of a section follows from its VAR mark, for any function from this mark to modes.
 pub section-mode : (mode_of : Bool → Mode) → mode_of true ≡ by_place → mode_of false ≡ by_value → (r : Resolution) (s : Section) → section_mode (in_labels r (section_of s)) ≡ mode_of s.by_reference
 section-mode mode_of marked unmarked r s = by_mode s.by_reference
   where
@@ -30,11 +30,11 @@ section-mode mode_of marked unmarked r s = by_mode s.by_reference
     by_mode true = sym marked
     by_mode false = sym unmarked
 
--- the parts of a procedure
+-- A procedure consists of its name, its formal parameters, its block and its closing name.
 pub procedure_parts : (p : Procedure) → procedure_of p ≡ declares_procedure (out-Procedure p).name (formals_of (out-Procedure p).formals) (block_of (out-Procedure p).block) (out-Procedure p).closing
 procedure_parts p = sym (ap procedure_of (roll-out-Procedure p)) ∙ procedure_made (out-Procedure p)
 
--- expressions in order
+-- A list of arguments has its expressions in order.
 further_listed : (r : Resolution) (es : List Expression) → further_arguments (in_labels r (items_of further_argument_of es)) ≡ all_in_labels r es
 further_listed r [] = refl
 further_listed r (e ∷ es) = ap (λ z. in_labels r (expression_of e) ∷ z) (further_listed r es)
@@ -43,6 +43,6 @@ pub all_listed : (r : Resolution) (es : List Expression) → arguments_listed (i
 all_listed r [] = refl
 all_listed r (e ∷ es) = ap (λ z. in_labels r (expression_of e) ∷ z) (further_listed r es)
 
--- the rest of a list, and a function applied to a result
+-- Splits the rest of a list into its first item and the later items.
 pub split : {A : Type 0} (done : ℕ) (xs : List A) (x : A) → done < length xs → x ≡ get_or xs done x → drop done xs ≡ x ∷ drop (done + 1) xs
 split done xs x less here = drop_more xs done x less ∙ ap (λ y. y ∷ drop (done + 1) xs) (sym here)

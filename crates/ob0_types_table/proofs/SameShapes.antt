@@ -1,4 +1,4 @@
--- A type is the same as itself.
+-- A shape is accepted as the same type as itself.
 use Rattle.std.proofs.Common.{◌≡◌, true, Bool, ◌&&◌, ◌==◌, refl, ap, ◌∙◌, eq-eqb}
 use Rattle.std.proofs.lemmas.Cmp.{nat_list_eq_equiv}
 use Rattle.ob0_language_names.specs.Names.{same_name}

@@ -1,7 +1,7 @@
--- The last element of a list.
+-- The last item of two joined lists is the last item of the second list, if that isn't empty.
 use Rattle.std.proofs.Common.{◌≡◌, ◌<◌, List, [], ◌∷◌, ◌++◌, length, sym, refl, ap, arith}
 
--- the last of some bindings
+-- If two joined lists end with an item and the second list isn't empty, that item is the last of the second list.
 pub last_of : {X : Type 0} (first more others : List X) (x : X) → first ++ more ≡ others ++ x ∷ [] → length first < length (first ++ more) → (left : List X) × (more ≡ left ++ x ∷ []) × (others ≡ first ++ left)
 last_of [] more others x e less = (others, e, refl)
 last_of (y ∷ first) more [] x e less =

@@ -1,5 +1,5 @@
--- The table of shapes: adding an entry leaves the earlier ones unchanged, and the shape of each
--- entry can be computed from the whole table.
+-- Adding an entry to the table leaves the earlier shapes unchanged. The shape of each entry can be computed from the
+-- whole table.
 use Rattle.std.proofs.Common.{◌≡◌, ℕ, zero, suc, ◌+◌, ◌<◌, ◌≤◌, List, [], ◌∷◌, ◌++◌, All, length, get_or, sym, refl, ap, ◌∙◌, subst, arith, append_assoc, append-nil, length-append, add-zero, zero-add, string_bytes}
 use Rattle.std.proofs.lemmas.List.{get_or_past}
 use Rattle.std.proofs.lemmas.List.Elements.{All-head, All-tail}
@@ -21,7 +21,7 @@ pub length-shapes_from : (known : List Shape) (ms : List code.TypeEntry) → len
 length-shapes_from known [] = omega arith
 length-shapes_from known (x ∷ ms) = omega (arith, length-shapes_from (known ++ made_shape known x ∷ []) ms, length-append known (made_shape known x ∷ []))
 
--- the shapes that are made later
+-- returns the shapes of entries that are made after the known ones
 pub shapes_later : List Shape → List code.TypeEntry → List Shape
 shapes_later known [] = []
 shapes_later known (x ∷ ms) = made_shape known x ∷ shapes_later (known ++ made_shape known x ∷ []) ms
@@ -32,7 +32,7 @@ shapes_from-known known [] = sym (append-nil known)
 shapes_from-known known (x ∷ ms) =
     shapes_from-known (known ++ made_shape known x ∷ []) ms ∙ append_assoc known (made_shape known x ∷ []) (shapes_later (known ++ made_shape known x ∷ []) ms)
 
--- adding shapes leaves every existing type unchanged
+-- Adding shapes leaves the shape of every existing type unchanged.
 pub type_shape-more : (shapes later : List Shape) (t : TypeId) → IsTypeMade (length shapes) t → type_shape (shapes ++ later) t ≡ type_shape shapes t
 type_shape-more shapes later type.Integer h = refl
 type_shape-more shapes later type.Boolean h = refl
@@ -48,7 +48,7 @@ pub made_shape-more : (shapes later : List Shape) (m : code.TypeEntry) → Parts
 made_shape-more shapes later (made.Array a) h = ap (array_shape a.ordinal a.length) (type_shape-more shapes later a.element h)
 made_shape-more shapes later (made.Record r) h = ap (record_shape r.ordinal) (fields_shape-more shapes later r.fields h)
 
--- an entry has the shape that is computed from the whole table
+-- An entry has the shape that is computed from the whole table, and the size of that shape.
 pub shape_at-entry : (known : List Shape) (ms : List code.TypeEntry) (i : ℕ) (m : code.TypeEntry) → AreEntriesInOrder known ms → i < length ms → m ≡ get_or ms i m
     → (get_or (shapes_from known ms) (length known + i) no_shape ≡ made_shape (shapes_from known ms) m) × CountsParts m (made_shape (shapes_from known ms) m)
 shape_at-entry known [] i m h less e = absurd (omega arith)

@@ -1,4 +1,4 @@
--- The tokens of a text have its numbers, each of at most 31 bits.
+-- The values of integer tokens in a text have at most 31 bits.
 use Rattle.std.proofs.Common.{◌≡◌, ℕ, zero, suc, ◌+◌, ◌<◌, ◌≤◌, List, [], ◌∷◌, ◌++◌, length, get_or, sym, ap, subst, arith}
 use Rattle.std.proofs.lemmas.Option.{slice_get-get_or, slice_get_past}
 use Rattle.ob0_scan.specs.declared.lexeme.Token.{Token}

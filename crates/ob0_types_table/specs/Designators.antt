@@ -1,5 +1,4 @@
--- Designators and lists of expressions in labelled trees, and the expressions that are only a
--- designator.
+-- Designators and lists of expressions in trees with labels, and expressions that are only a designator.
 -- Rule: none; for contracts: trees with labels.
 use Rattle.std.specs.Prelude.{ℕ, List, map, Some, None, Option}
 use Rattle.ob0_tree.specs.Tree.{Tree, designator, end, expression, factor, items, product, selector, simple, sum, term}
@@ -11,29 +10,29 @@ use Rattle.ob0_scope_table.specs.Resolution.{Resolution}
 use Rattle.ob0_scope_table.specs.InLabels.{in_labels}
 use Rattle.ob0_language_types.specs.Selected.{selectors_in}
 
--- a designator's name and its selectors
+-- returns a designator's name and its selectors
 abbrev pub designator_parts : Designator → ℕ × Tree ℕ (items selector)
 designator_parts d = ((out-Designator d).name, selectors_in d)
 
--- the designator of a factor, if it is one
+-- returns the designator of a factor that is a designator; None for any other factor
 abbrev pub designator_of_factor : {N : Type 0}
     → Tree N factor
     → Option (N × Tree N (items selector))
 designator_of_factor (designator x path) = Some (x, path)
 designator_of_factor _ = None
 
--- the designator of a term, if the term is only that
+-- returns the designator of a term that is only a designator; None for any other term
 abbrev pub designator_of_term : {N : Type 0} → Tree N term → Option (N × Tree N (items selector))
 designator_of_term (product f end) = designator_of_factor f
 designator_of_term _ = None
 
--- the designator of a simple expression, if this has no sign and no operator
+-- returns the designator of a simple expression that has no sign and no operator; None for any other
 abbrev pub designator_of_simple : {N : Type 0}
     → Tree N simple
     → Option (N × Tree N (items selector))
 designator_of_simple (sum None t end) = designator_of_term t
 designator_of_simple _ = None
 
--- several expressions, in order
+-- returns several expressions in order, as trees with labels
 abbrev pub all_in_labels : Resolution → List Expression → List (Tree Label expression)
 all_in_labels r es = map (λ e. in_labels r (expression_of e)) es

@@ -8,7 +8,7 @@ use Rattle.ob0_types_table.specs.declared.field_table.FirstOfName.{FirstOfName}
 use Rattle.ob0_types_table.specs.declared.known.Field.{Field}
 use Rattle.ob0_types_table.specs.declared.types.TypeId.{TypeId}
 
--- the first field with a name; the positions of the fields are counted from k
+-- returns the first field with a name; the positions of the fields are counted from `k`
 abbrev pub first_from : ℕ → List Field → Name → Option FirstOfName
 first_from k [] x = None
 first_from k (f ∷ fs) x =
@@ -16,17 +16,17 @@ first_from k (f ∷ fs) x =
     then Some (record { place = k; of = f.of })
     else first_from (suc k) fs x
 
--- the type of the first field with a name
+-- returns the type of the first field with a name; None if there is none
 abbrev pub first_field_type : List Field → Name → Option TypeId
 first_field_type [] x = None
 first_field_type (f ∷ fs) x =
     if same_name x (string_bytes f.name) then Some f.of else first_field_type fs x
 
--- states that a map has the first field of each name, with positions counted from k
+-- holds if a map has the first field of each name, with positions counted from `k`
 pub record IsIndexFrom
     (map : BTreeMap (String Global) FirstOfName) (k : ℕ) (fields : List Field) : Type 0 where
   pub found : (x : Name) → get_by_text map x ≡ first_from k fields x
 
--- states that the map has the first field of each name
+-- holds if the map has the first field of each name, with positions counted from 0
 abbrev pub IsIndex : BTreeMap (String Global) FirstOfName → List Field → Type 0
 IsIndex map fields = IsIndexFrom map 0 fields

@@ -8,15 +8,15 @@ use Rattle.ob0_language_types.specs.Expressions.{Object}
 use Rattle.ob0_types_table.specs.Tables.{object_in, shapes_from}
 use Rattle.ob0_language_types.specs.WellTyped.{Signature}
 
--- the arrays and records that were made, and the object of each ordinal
+-- the entries of the arrays and records, and the object of each ordinal
 pub record Tables : Type 0 where
   pub shapes : List code.TypeEntry
   pub objects : List (Option declaration.Object)
 
--- the shapes of the table, each made from earlier ones
+-- returns the shapes of the table's entries, each made from earlier ones
 abbrev pub shapes_of : Tables → List Shape
 shapes_of t = shapes_from [] t.shapes
 
--- the object of the declaration with an ordinal
+-- returns the object of the declaration with this ordinal; None if there is none
 abbrev pub declared_in : Tables → ℕ → Option (Object Shape Signature)
 declared_in t k = option_and_then (object_in (shapes_of t)) (slice_index_or t.objects k None)

@@ -1,4 +1,4 @@
--- The steps of a constant's evaluation.
+-- The values of operations in a constant expression.
 -- Rule: none; for contracts: steps of docs/LANGUAGE.md, Types 6.
 use Rattle.std.specs.Prelude.{cond, Some, Option, option_and_then}
 use Rattle.ob0_tree.specs.declared.tree.AddOperator.{AddOperator}
@@ -6,12 +6,12 @@ use Rattle.ob0_tree.specs.declared.tree.MultiplyOperator.{MultiplyOperator}
 use Rattle.ob0_language_types.specs.Typing.{given_value}
 use Rattle.ob0_language_values.specs.Values.{Value, add, add_is_settled, multiply, multiply_is_settled}
 
--- the value of a sum; if the left operand settles it, the right one needs no value
+-- returns the value of a sum; if the left operand settles it, the right operand needs no value
 abbrev pub sum_value : AddOperator → Option Value → Value → Option Value
 sum_value o right x =
     cond (add_is_settled o x) (Some x) (option_and_then (λ y. given_value (add o x y)) right)
 
--- the value of a product; if the left operand settles it, the right one needs no value
+-- returns the value of a product; if the left operand settles it, the right operand needs no value
 abbrev pub product_value : MultiplyOperator → Option Value → Value → Option Value
 product_value o right x =
     cond (multiply_is_settled o x) (Some x)

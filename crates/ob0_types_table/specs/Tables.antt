@@ -18,22 +18,22 @@ use Rattle.ob0_language_types.specs.Expressions.{Object, Standard, a_constant, a
 use Rattle.ob0_language_types.specs.Typing.{depth, scalars}
 use Rattle.ob0_language_types.specs.WellTyped.{Formal, Mode, Signature, by_place, by_value}
 
--- The shape of a faulty type. No ARRAY or RECORD has its ordinal, because a text has fewer of them
--- than bytes. So it isn't the shape of any type of a module.
+-- The shape of a faulty type. No ARRAY or RECORD has its ordinal, because a text has fewer such words than bytes. So it
+-- isn't the shape of any type of a module.
 abbrev pub no_shape : Shape
 no_shape = record_shape max_text no_field_shape
 
--- an array's shape, or the shape of a faulty type
+-- returns an array's shape; for any other shape, the shape of a faulty type
 abbrev pub only_array : Shape → Shape
 only_array (array_shape k n s) = array_shape k n s
 only_array _ = no_shape
 
--- a record's shape, or the shape of a faulty type
+-- returns a record's shape; for any other shape, the shape of a faulty type
 abbrev pub only_record : Shape → Shape
 only_record (record_shape k fs) = record_shape k fs
 only_record _ = no_shape
 
--- the shape of a type, from the shapes of the arrays and records in order
+-- returns the shape of a type, given the shapes of the arrays and records in order
 abbrev pub type_shape : List Shape → TypeId → Shape
 type_shape shapes type.Integer = integer_shape
 type_shape shapes type.Boolean = boolean_shape
@@ -41,70 +41,71 @@ type_shape shapes (type.Array i) = only_array (slice_index_or shapes i no_shape)
 type_shape shapes (type.Record i) = only_record (slice_index_or shapes i no_shape)
 type_shape shapes type.Unknown = no_shape
 
--- the shapes of a record's fields, in order
+-- returns the shapes of a record's fields, in order
 abbrev pub fields_shape : List Shape → List Field → FieldShapes
 fields_shape shapes [] = no_field_shape
 fields_shape shapes (f ∷ fs) =
     next_field_shape (string_bytes f.name) (type_shape shapes f.of) (fields_shape shapes fs)
 
--- the shape of an entry of the table, from the earlier shapes
+-- returns the shape of an entry of the table, given the earlier shapes
 abbrev pub made_shape : List Shape → code.TypeEntry → Shape
 made_shape shapes (made.Array a) = array_shape a.ordinal a.length (type_shape shapes a.element)
 made_shape shapes (made.Record r) = record_shape r.ordinal (fields_shape shapes r.fields)
 
--- the type of an entry: its kind and its place in the table, so no two entries have the same type
+-- returns the type of an entry, which has the entry's kind and its index in the table, so no two entries have the same
+-- type
 abbrev pub type_at : code.TypeEntry → ℕ → TypeId
 type_at (made.Array a) place = type.Array place
 type_at (made.Record r) place = type.Record place
 
--- the shapes of a table, each made from earlier ones
+-- returns the shapes of a table's entries, each made from earlier ones
 abbrev pub shapes_from : List Shape → List code.TypeEntry → List Shape
 shapes_from known [] = known
 shapes_from known (m ∷ ms) = shapes_from (known ++ made_shape known m ∷ []) ms
 
--- states that a type has been made if there are n shapes
+-- holds if a type refers only to one of the first `n` entries
 abbrev pub IsTypeMade : ℕ → TypeId → Type 0
 IsTypeMade n (type.Array i) = i < n
 IsTypeMade n (type.Record i) = i < n
 IsTypeMade n _ = Unit {0}
 
--- states that the parts of a shape were made before it
+-- holds if the parts of an entry refer only to the first `n` entries
 abbrev pub PartsAreMade : ℕ → code.TypeEntry → Type 0
 PartsAreMade n (made.Array a) = IsTypeMade n a.element
 PartsAreMade n (made.Record r) = All (λ f. IsTypeMade n f.of) r.fields
 
--- states that an entry has the number of scalars and the depth of its shape
+-- holds if an entry has the number of scalars and the depth of its shape
 abbrev pub CountsParts : code.TypeEntry → Shape → Type 0
 CountsParts (made.Array a) s = (a.scalars ≡ scalars s) × (a.depth ≡ depth s)
 CountsParts (made.Record r) s = (r.scalars ≡ scalars s) × (r.depth ≡ depth s)
 
--- an array or record whose parts were made before it, within the limits
+-- holds if the parts of an array or record were made before it, and it has the size of its shape
 pub record IsEntry (shapes : List Shape) (m : code.TypeEntry) : Type 0 where
   pub parts : PartsAreMade (length shapes) m
   pub counted : CountsParts m (made_shape shapes m)
 
--- states that each entry is made from earlier ones
+-- holds if each entry is made from earlier ones
 abbrev pub AreEntriesInOrder : List Shape → List code.TypeEntry → Type 0
 AreEntriesInOrder known [] = Unit {0}
 AreEntriesInOrder known (m ∷ ms) =
     IsEntry known m × AreEntriesInOrder (known ++ made_shape known m ∷ []) ms
 
--- the mode in which a parameter is passed
+-- returns the mode in which a parameter is passed
 abbrev pub mode_of : Bool → Mode
 mode_of true = by_place
 mode_of false = by_value
 
--- a parameter of the table
+-- returns a formal parameter of the table as one of the definitions
 abbrev pub formal_in : List Shape → formal.Formal → Formal
 formal_in shapes f = record { mode = mode_of f.by_place; shape = type_shape shapes f.of }
 
--- a predeclared procedure of the code
+-- returns a standard procedure of the code as one of the definitions
 abbrev pub standard_of : standard.Standard → Standard
 standard_of standards.Read = reads
 standard_of standards.Write = writes
 standard_of standards.WriteLn = writes_line
 
--- the object of a declaration; a constant with a fault has none
+-- returns the object of a declaration; None for a constant with a fault
 abbrev pub object_in : List Shape → declaration.Object → Option (Object Shape Signature)
 object_in shapes (kind.Named t) = Some (a_type (type_shape shapes t))
 object_in shapes (kind.Constant v) = Some (a_constant (scalar_value v))

@@ -1,4 +1,4 @@
-//! Recognizes expressions that are only a designator. Only these may be VAR arguments.
+//! Recognizes expressions that are only a designator. Only such an expression can be a VAR argument.
 
 ghost use Rattle.std.specs.Prelude.{◌≡◌, option_map};
 ghost use Rattle.ob0_tree.specs.View.{compound_of, expression_of, factor_of, simple_of, term_of};
@@ -7,7 +7,8 @@ ghost use Rattle.ob0_language_types.specs.Typing.{lone_designator};
 
 use ob0_tree::{Compound, Designator, Expression, Factor, Simple, Term};
 
-/// Returns the designator if the expression is only that, without sign, operators or parentheses.
+/// Returns the designator of an expression that is only a designator, without sign, operators or parentheses. Returns
+/// None for any other expression.
 pub fn lone_designator(e: &Expression) -> Option<&Designator>
     ensures { option_map (λ d. designator_parts d.now) result
         ≡ lone_designator (expression_of e.now) }

@@ -1,4 +1,4 @@
-//! The table of a text's types while it grows.
+//! Adds entries to the table of a text's types.
 
 ghost use Rattle.std.specs.Prelude.{◌≡◌, ◌++◌, ◌∷◌, [], length, IfOk, OnOk, OnErr};
 ghost use Rattle.ob0_types_table.specs.Tables.{type_at};
@@ -7,8 +7,8 @@ use crate::known::TypeEntry;
 use crate::types::TypeId;
 use std::alloc::AllocError;
 
-/// Adds the entry of an ARRAY or RECORD, and returns its type, which differs from the types of all
-/// other entries. If the allocation fails, the table is unchanged.
+/// Appends the entry of an ARRAY or RECORD, and returns its type, which differs from the types of all other entries. If
+/// the allocation fails, the table is unchanged.
 pub fn add_entry(entries: &mut Vec<TypeEntry>, entry: TypeEntry) -> Result<TypeId, AllocError>
     ensures made { IfOk result (λ of. of ≡ type_at entry (length entries.old.items)) }
     ensures added { OnOk result (entries.new.items ≡ entries.old.items ++ entry ∷ []) }
@@ -19,7 +19,7 @@ pub fn add_entry(entries: &mut Vec<TypeEntry>, entry: TypeEntry) -> Result<TypeI
     Ok(of)
 }
 
-/// Returns the type of an array or record at this place of the table.
+/// Returns the type of an array or record whose entry has this index in the table.
 fn type_at(entry: &TypeEntry, place: usize) -> TypeId
     ensures { result ≡ type_at entry.now place }
 {

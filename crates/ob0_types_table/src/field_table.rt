@@ -1,6 +1,6 @@
 //! The fields of a record, found by name in logarithmic time.
 //!
-//! In clauses a table is only the list of fields. The map is an index of that list, which is an
+//! In contracts, the value of a table is only the list of fields. The map is an index of that list, which is an
 //! invariant (`IsIndex`); it isn't part of the table's value.
 
 ghost use Rattle.std.specs.Prelude.{◌≡◌, List, IfOk, option_map};
@@ -16,14 +16,14 @@ use std::alloc::{AllocError, Global};
 use std::collections::BTreeMap;
 use std::marker::Model;
 
-/// The first field with a name: its position and its type.
+/// The position and the type of the first field with some name.
 #[derive(Clone, Copy)]
 struct FirstOfName {
     place: usize,
     of: TypeId,
 }
 
-/// The fields in order, with a map to the first field of each name.
+/// The fields of a record in order, with a map to the first field of each name.
 #[derive(Drop)]
 pub struct FieldTable {
     fields: Vec<Field>,
@@ -43,8 +43,8 @@ impl Model for FieldTable {
     ghost invariant = { λ t. IsIndex t.first_of t.fields.items };
 }
 
-/// Returns a map to the first field of each name. It is filled starting at the last field, so that
-/// the first one with a name remains.
+/// Returns a map to the first field of each name. The map is filled starting at the last field, so that the first field
+/// with a name remains.
 fn first_of(alloc: Global, fields: &[Field]) -> Result<BTreeMap<String, FirstOfName>, AllocError>
     ensures { IfOk result (λ m. IsIndex m fields.now) }
 {
@@ -63,7 +63,7 @@ fn first_of(alloc: Global, fields: &[Field]) -> Result<BTreeMap<String, FirstOfN
 }
 
 impl FieldTable {
-    /// Makes the table of these fields.
+    /// Makes the table of these fields. Fails only if an allocation fails.
     pub fn new(fields: Vec<Field>) -> Result<FieldTable, AllocError>
         ensures { IfOk result (λ t. t ≡ fields.items) }
     {
@@ -81,7 +81,7 @@ impl FieldTable {
         self.fields.as_slice()
     }
 
-    /// Returns the type of the first field with this name.
+    /// Returns the type of the first field with this name. Returns None if there is none.
     pub fn find(&self, name: &str) -> Option<TypeId>
         ensures first { result ≡ first_field_type self.now name.now }
         ensures shape { (shapes : List shape.Shape)
@@ -94,7 +94,7 @@ impl FieldTable {
         }
     }
 
-    /// Returns the position of the first field with this name.
+    /// Returns the position of the first field with this name, counted from 0. Returns None if there is none.
     pub fn place(&self, name: &str) -> Option<usize>
         ensures { (shapes : List shape.Shape)
             → result ≡ place_of_field (fields_shape shapes self.now) name.now }

@@ -1,9 +1,9 @@
 //! The table of a valid module: the shapes of its types, and the objects of its declarations.
 //!
-//! Types are places in a table. The entry of an ARRAY or RECORD refers only to earlier entries
-//! (`AreEntriesInOrder`). `shapes_of` computes the shapes of the table, starting at the first
-//! entry. The value of `DeclarationTable` is its two lists of entries, as the code has them. The
-//! shapes are functions of this value, because the definitions' `Shape` isn't a type of the code.
+//! A type refers to an entry of the table by its index. The entry of an ARRAY or RECORD refers only to earlier entries
+//! (`AreEntriesInOrder`). `shapes_of` computes the shapes of the entries, starting at the first. The value of a
+//! `DeclarationTable` is its two lists of entries, as the code has them. The shapes are functions of this value,
+//! because the definitions' `Shape` isn't a type of the code.
 
 ghost use Rattle.std.specs.Prelude.{◌≡◌, List, option_map};
 ghost use Rattle.ob0_language_values.specs.Values as shape;
@@ -15,29 +15,28 @@ use crate::types::{TypeId, scalar_type};
 use ob0_language_values::Scalar;
 use std::marker::Model;
 
-/// The greatest length of an array, and the greatest number of scalars in a type.
+/// The greatest length of an array, and also the greatest number of scalars in a type.
 pub const MAX_SCALARS: usize = 65536;
 
-/// The greatest number of arrays and records inside one another; a named type counts as if written
-/// out.
+/// The greatest depth to which arrays and records may be nested. A named type counts as if it were written out.
 pub const MAX_DEPTH: usize = 100;
 
-/// A field of a record.
+/// A field of a record, with its name and type.
 #[derive(Drop)]
 pub struct Field {
     pub name: String,
     pub of: TypeId,
 }
 
-/// A field of a record: the ordinal of the record among the words ARRAY and RECORD of the text, and
-/// the position of the field in it, both from 0.
+/// The place of a field: the ordinal of its record among the words ARRAY and RECORD of the text, and its position among
+/// the record's fields. Both are counted from 0.
 #[derive(Clone, Copy, PartialEq, Eq)]
 pub struct FieldOf {
     pub ordinal: usize,
     pub index: usize,
 }
 
-/// `ARRAY length OF element`, made by the word with this ordinal in the text.
+/// The type `ARRAY length OF element`, made by the word ARRAY with this ordinal in the text.
 #[derive(Clone, Copy)]
 pub struct ArrayShape {
     pub ordinal: usize,
@@ -47,7 +46,7 @@ pub struct ArrayShape {
     pub depth: usize,
 }
 
-/// `RECORD fields END`, made by the word with this ordinal in the text.
+/// The type `RECORD fields END`, made by the word RECORD with this ordinal in the text.
 #[derive(Drop)]
 pub struct RecordShape {
     pub ordinal: usize,
@@ -56,14 +55,14 @@ pub struct RecordShape {
     pub depth: usize,
 }
 
-/// The array or record that an ARRAY or RECORD of the text makes.
+/// The entry of an array or record, which a word ARRAY or RECORD of the text makes.
 #[derive(Drop)]
 pub enum TypeEntry {
     Array(ArrayShape),
     Record(RecordShape),
 }
 
-/// A formal parameter: passed by its place, as VAR, or by its value.
+/// A formal parameter: its type, and whether it is passed by its place (VAR) or by its value.
 #[derive(Clone, Copy)]
 pub struct Formal {
     pub by_place: bool,
@@ -78,10 +77,10 @@ pub enum Standard {
     WriteLn,
 }
 
-/// The object that a declaration declares.
+/// The meaning of a declared name.
 #[derive(Drop)]
 pub enum Object {
-    /// A type's name, with the type.
+    /// The name of this type.
     Named(TypeId),
     Constant(Scalar),
     /// A constant whose right side has a fault.
@@ -91,7 +90,7 @@ pub enum Object {
     Standard(Standard),
 }
 
-/// The types, each made from earlier ones, and the object of each declaration, by its ordinal.
+/// The types, each made from earlier ones, and the object of each declaration by its ordinal.
 #[derive(Drop)]
 pub struct DeclarationTable {
     shapes: Vec<TypeEntry>,
@@ -99,7 +98,7 @@ pub struct DeclarationTable {
 }
 
 impl RecordShape {
-    /// Returns the first field with this name.
+    /// Returns the place of the first field with this name. Returns None if there is none.
     fn field(&self, name: &str) -> Option<FieldOf>
         ensures { (shapes : List shape.Shape)
             → result
@@ -136,7 +135,7 @@ impl DeclarationTable {
     ghost use Rattle.ob0_language_values.specs.Scalars.{scalar_value};
     ghost use Rattle.ob0_language_values.specs.Values.{integer_shape};
 
-    /// Makes the table of a module from its arrays and records and the objects of its declarations.
+    /// Makes the table of a module from its arrays and records and from the objects of its declarations.
     pub fn new(shapes: Vec<TypeEntry>, objects: Vec<Option<Object>>) -> DeclarationTable
         requires { AreEntriesInOrder [] shapes.items }
         ensures { result ≡ record { shapes = shapes.items; objects = objects.items } }
@@ -144,21 +143,21 @@ impl DeclarationTable {
         DeclarationTable { shapes, objects }
     }
 
-    /// Returns the number of declarations.
+    /// Returns the number of the table's entries for ordinals.
     pub fn count(&self) -> usize
         ensures { result ≡ length self.now.objects }
     {
         self.objects.len()
     }
 
-    /// Returns the arrays and records in order. Each is made from earlier ones.
+    /// Returns the entries of the arrays and records, in order. Each is made from earlier ones.
     pub fn shapes(&self) -> &[TypeEntry]
         ensures { result.now ≡ self.now.shapes }
     {
         self.shapes.as_slice()
     }
 
-    /// Returns the object of a declaration.
+    /// Returns the object of the declaration with this ordinal. Returns None if there is none.
     pub fn object(&self, ordinal: usize) -> Option<&Object>
         ensures { option_and_then (λ o. object_in (shapes_of self.now) o.now) result
             ≡ declared_in self.now ordinal }
@@ -172,7 +171,8 @@ impl DeclarationTable {
         }
     }
 
-    /// Returns the value of a declaration if it is a constant.
+    /// Returns the value of the constant with this ordinal. Returns None if the declaration isn't a constant with a
+    /// value.
     pub fn constant(&self, ordinal: usize) -> Option<Scalar>
         ensures { option_map scalar_value result ≡ constant_of (declared_in self.now ordinal) }
     {
@@ -186,7 +186,8 @@ impl DeclarationTable {
         }
     }
 
-    /// Returns the type of a declaration if it is a type, a variable, a parameter or a constant.
+    /// Returns the type of the declaration with this ordinal if it is a type, a variable, a parameter or a constant.
+    /// Otherwise returns None.
     pub fn declared_type(&self, ordinal: usize) -> Option<TypeId>
         ensures { option_map (type_shape (shapes_of self.now)) result
             ≡ type_declared (declared_in self.now ordinal) }
@@ -201,7 +202,7 @@ impl DeclarationTable {
         }
     }
 
-    /// Returns the entry at a place of the table.
+    /// Returns the entry with this index in the table. Returns None if there is none.
     pub(crate) fn entry(&self, place: usize) -> Option<&TypeEntry>
         ensures found { option_map (λ m. m.now) result ≡ slice_get self.now.shapes place }
         ensures shape { MatchOption result
@@ -217,7 +218,7 @@ impl DeclarationTable {
         }
     }
 
-    /// Returns the type of an array's elements.
+    /// Returns the type of the elements of an array type. Returns None if the type isn't an array.
     pub fn element(&self, base: TypeId) -> Option<TypeId>
         ensures { option_map (type_shape (shapes_of self.now)) result
             ≡ element_type (type_shape (shapes_of self.now) base) integer_shape }
@@ -234,7 +235,8 @@ impl DeclarationTable {
         }
     }
 
-    /// Returns the type of the first field with this name in a record.
+    /// Returns the type of the first field with this name in a record type. Returns None if the type is no record with
+    /// such a field.
     pub fn field_type(&self, base: TypeId, name: &str) -> Option<TypeId>
         ensures { option_map (type_shape (shapes_of self.now)) result
             ≡ field_type (type_shape (shapes_of self.now) base) name.now }
@@ -251,7 +253,8 @@ impl DeclarationTable {
         }
     }
 
-    /// Returns the first field with this name in a record.
+    /// Returns the place of the first field with this name in a record type. Returns None if the type is no record with
+    /// such a field.
     pub fn field(&self, base: TypeId, name: &str) -> Option<FieldOf>
         ensures { result ≡ field_selected (type_shape (shapes_of self.now) base) name.now }
     {

@@ -1,4 +1,4 @@
-//! The numbers of integer tokens.
+//! The values of integer tokens.
 
 ghost use Rattle.std.specs.Prelude.{◌≡◌, ◌≤◌, pos};
 ghost use Rattle.ob0_tree.specs.Places.{value_at, value_of};
@@ -6,11 +6,11 @@ ghost use Rattle.ob0_scan.specs.Classes.{max_integer};
 
 use ob0_scan::{TokenKind, Tokens};
 
-/// Returns the number of an integer token, and 0 for any other token.
+/// Returns the value of an integer token. Returns 0 for any other token, or if there is no such token.
 pub fn number_at(tokens: &Tokens, token: usize) -> i32
     ensures { result ≡ pos (value_at tokens.now token) }
 {
-    // The proof needs the contract of this call.
+    // The contract of this call gives the proof the invariant of the tokens.
     let _scanned = tokens.text();
     let tokens = tokens.tokens();
     if token < tokens.len() {

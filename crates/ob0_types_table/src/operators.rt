@@ -1,5 +1,5 @@
-//! Operations on the values of constants. An operand may lack a value. If the left operand settles
-//! the operation, the result is its value, even if the right one has none.
+//! Operations on the values of constants. An operand may lack a value. If the left operand settles the operation, the
+//! result is that operand's value, even if the right operand has none.
 
 ghost use Rattle.std.specs.Prelude.{◌≡◌, Some, option_and_then, option_map};
 ghost use Rattle.ob0_language_values.specs.Scalars.{scalar_value};
@@ -14,7 +14,8 @@ use ob0_language_values::scalar::{
 };
 use ob0_tree::{AddOperator, MultiplyOperator, Relation, Sign};
 
-/// Returns the truth value of a relation, or None if a side has no value or the two don't fit.
+/// Returns the truth value of a relation. Returns None if an operand has no value or the relation doesn't apply to
+/// them.
 pub fn value_of_relation(
     relation: Relation,
     left: Option<Scalar>,
@@ -33,7 +34,8 @@ pub fn value_of_relation(
     }
 }
 
-/// Returns the value of a first term with its optional sign, or None if it overflows.
+/// Returns the value of a first term with its optional sign. Returns None if the term has no value or the operation has
+/// none, for example because it overflows.
 pub fn with_sign(sign: Option<Sign>, operand: Option<Scalar>) -> Option<Scalar>
     ensures { option_map scalar_value result
         ≡ option_and_then (λ x. given_value (values.apply_sign sign x))
@@ -45,7 +47,7 @@ pub fn with_sign(sign: Option<Sign>, operand: Option<Scalar>) -> Option<Scalar>
     }
 }
 
-/// Returns the value of `~` applied to an operand.
+/// Returns the value of `~` applied to an operand. Returns None if the operand has no value or isn't a truth value.
 pub fn complement(operand: Option<Scalar>) -> Option<Scalar>
     ensures { option_map scalar_value result
         ≡ option_and_then (λ x. given_value (values.negate x)) (option_map scalar_value operand) }
@@ -56,7 +58,7 @@ pub fn complement(operand: Option<Scalar>) -> Option<Scalar>
     }
 }
 
-/// Returns the value of a sum, a difference or an OR, or None if it has no value.
+/// Returns the value of a sum, a difference or an OR. Returns None if it has no value.
 pub fn value_of_sum(
     operator: AddOperator,
     left: Option<Scalar>,
@@ -80,7 +82,7 @@ pub fn value_of_sum(
     }
 }
 
-/// Returns the value of a product, a quotient, a remainder or an `&`, or None if it has no value.
+/// Returns the value of a product, a quotient, a remainder or an `&`. Returns None if it has no value.
 pub fn value_of_product(
     operator: MultiplyOperator,
     left: Option<Scalar>,

@@ -1,10 +1,9 @@
-//! A type with its parts.
+//! Types with their parts.
 //!
-//! An array or a record comes with the number of scalars and the depth of its shape
-//! (`PartsAreCounted`). A `TypeId` has no parts exactly if it isn't one of the module's types
-//! (`is_known_type`). A faulty type also has a shape (`no_shape`), with an ordinal that no ARRAY or
-//! RECORD of a text has. So no clause about shapes allows a type of a module to be returned as
-//! `Unknown`.
+//! An array or a record comes with the number of scalars and the depth of its shape (`PartsAreCounted`). The parts of a
+//! `TypeId` are `Faulty` exactly if it isn't one of the module's types (`is_known_type`). A faulty type also has a
+//! shape (`no_shape`), with an ordinal that no ARRAY or RECORD of a text has. So no clause about shapes allows a type
+//! of a module to be returned as `Unknown`.
 
 ghost use Rattle.std.specs.Prelude.{◌≡◌};
 ghost use Rattle.ob0_types_table.specs.Parts.{PartsAreCounted, has_parts, is_known_type, parts_shape};
@@ -25,8 +24,7 @@ pub enum Parts<'k> {
 }
 
 impl DeclarationTable {
-    /// Returns a type with its parts. The result is `Faulty` exactly if it isn't a type of the
-    /// module.
+    /// Returns the parts of a type. The result is `Faulty` exactly if the type isn't one of the module's types.
     pub fn parts(&self, of: TypeId) -> Parts<'_>
         ensures shape { parts_shape (shapes_of self.now) result
             ≡ type_shape (shapes_of self.now) of }

@@ -8,7 +8,7 @@ ghost use Rattle.ob0_language_types.specs.Typing.{value_type};
 
 use ob0_language_values::Scalar;
 
-/// A type: INTEGER, BOOLEAN, or the place of an array or record in the table of shapes.
+/// A type: INTEGER, BOOLEAN, or the index of an array or record in the table.
 #[derive(Clone, Copy, PartialEq, Eq)]
 pub enum TypeId {
     Integer,
@@ -19,7 +19,7 @@ pub enum TypeId {
     Unknown,
 }
 
-/// Returns the type of a constant.
+/// Returns the type of a constant with this value: INTEGER or BOOLEAN.
 pub fn scalar_type(value: Scalar) -> TypeId
     ensures { (shapes : List Shape)
         → Some (type_shape shapes result) ≡ value_type (scalar_value value) }

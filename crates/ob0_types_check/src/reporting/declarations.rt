@@ -1,4 +1,4 @@
-//! Walks the declarations in text order, and records what each is for the text after it.
+//! Walks the declarations in text order, and records the meaning of each for the text after it.
 
 ghost use Rattle.std.specs.Prelude.{◌≡◌, ◌∷◌, ◌++◌, [], map, IfOk, OnOk};
 ghost use Rattle.ob0_language_names.specs.Parts.{formal_sections, section_constants, section_types, section_variables};
@@ -16,7 +16,7 @@ use ob0_tree::{Block, Constant, Names, Procedure, Section, Statement, TypeDeclar
 use ob0_types_table::{Formal, TypeId};
 use std::alloc::AllocError;
 
-/// Appends a formal parameter for each of these names.
+/// Appends the same formal parameter once for each of these names.
 fn add_formals(names: &Names, formal: Formal, formals: &mut Vec<Formal>) -> Result<(), AllocError>
     ensures { OnOk result (formals.new.items
         ≡ formals.old.items ++ map (λ name. formal) (names.now.first ∷ names.now.more.items)) }
@@ -82,8 +82,8 @@ impl<'t> Reporter<'t> {
         Ok(())
     }
 
-    /// Reports the faults of a procedure. Its name is known after the heading, and so in its own
-    /// body.
+    /// Reports the faults of a procedure. The procedure's name is declared after the heading, so its own body can call
+    /// the procedure.
     #[cycle(blocks)]
     fn procedure(
         &mut self,

@@ -22,15 +22,15 @@ use ob0_tree::{
 use ob0_types_table::{TypeId, number_at, operators};
 use std::alloc::AllocError;
 
-/// The facts about an expression.
+/// The result of checking an expression: its type, its value, whether it can be a place, and its tokens.
 #[derive(Clone, Copy)]
 pub(crate) struct Operand {
     pub(crate) of: TypeId,
-    /// The value, or None if the expression has a fault or isn't constant.
+    /// The value if the expression is constant, or None if it isn't constant or has a fault.
     pub(crate) value: Option<Scalar>,
     /// True if the expression is only a name with selectors, and the name isn't a constant's.
     pub(crate) is_place: bool,
-    /// The first and the last token.
+    /// The index of the expression's first token. The next field is the index of its last token.
     pub(crate) first: usize,
     pub(crate) last: usize,
 }
@@ -56,8 +56,8 @@ fn required_by_multiply(operator: MultiplyOperator) -> TypeId
     }
 }
 
-/// Returns the type that a relation requires of both sides. `=` and `#` compare two numbers or two
-/// truth values. If the left side's type is unknown, they require nothing of the right side.
+/// Returns the type that a relation requires of both operands. `=` and `#` compare two numbers or two truth values. If
+/// the left operand's type is unknown, they require nothing of the right operand.
 fn required_by_relation(relation: Relation, left: TypeId) -> TypeId
     ensures { result ≡ required_by_relation (known_types []) relation left }
 {
@@ -83,8 +83,8 @@ fn required_by_equality(left: TypeId) -> TypeId
     }
 }
 
-/// Returns the type of a comparison, from the type of its operands: BOOLEAN, or unknown if that
-/// type is unknown.
+/// Returns the type of a comparison whose operands have this type: BOOLEAN, or unknown if the type of the operands is
+/// unknown.
 fn truth_of(operands: TypeId) -> TypeId
     ensures { result ≡ comparison_type (known_types []) operands }
 {
@@ -103,8 +103,8 @@ pub(crate) fn same_type(a: TypeId, b: TypeId) -> bool
     a == b
 }
 
-/// True if a type is accepted where another is required. An unknown type is accepted everywhere,
-/// and requires nothing.
+/// Returns true if a type is accepted at a place that requires the type `wanted`. An unknown type is accepted
+/// everywhere, and as a requirement it accepts every type.
 fn fits(of: TypeId, wanted: TypeId) -> bool
     ensures { result ≡ fits (known_types []) of wanted }
 {
@@ -123,7 +123,7 @@ fn agreed_type(of: TypeId, wanted: TypeId) -> TypeId
 }
 
 impl Operand {
-    /// Returns the operand with the sign or `~` that precedes it.
+    /// Returns the operand for a sign or `~` with the operand after it.
     fn after_sign(self, of: TypeId, value: Option<Scalar>) -> Operand
         ensures { operand_of result
             ≡ after_sign of (option_map scalar_value value) (operand_of self) }
@@ -137,7 +137,7 @@ impl Operand {
         }
     }
 
-    /// Returns the operation whose operands are this and the right one.
+    /// Returns the operand for an operation on this operand and the right one.
     fn with(self, right: Operand, of: TypeId, value: Option<Scalar>) -> Operand
         ensures { operand_of result
             ≡ joint_operand of (option_map scalar_value value) (operand_of self)
@@ -152,7 +152,7 @@ impl Operand {
         }
     }
 
-    /// Returns the part of this designator up to a token.
+    /// Returns the operand for the part of this designator that ends at the token `last`.
     fn part(self, of: TypeId, last: usize) -> Operand
         ensures { operand_of result ≡ part_of (operand_of self) of last }
     {
@@ -167,7 +167,7 @@ impl Operand {
 }
 
 impl<'t> Supposed<'t> {
-    /// Reports a fault at a whole expression.
+    /// Reports a fault that spans the whole expression of an operand.
     pub(crate) fn report_operand(
         &self,
         faults: &mut Vec<Fault>,
@@ -180,8 +180,8 @@ impl<'t> Supposed<'t> {
         self.report(faults, code, operand.first, operand.last)
     }
 
-    /// Requires a type of an operand: reports the operand if its type is known and different.
-    /// Returns the required type if the operand has it, otherwise the unknown type.
+    /// Reports a mismatch if the operand's type is known and differs from the required type. Returns the required type
+    /// if the operand has it, otherwise the unknown type.
     pub(crate) fn require(
         &self,
         faults: &mut Vec<Fault>,
@@ -197,8 +197,8 @@ impl<'t> Supposed<'t> {
         Ok(agreed_type(operand.of, wanted))
     }
 
-    /// Requires the same type of both sides, and returns it if both have it, otherwise the unknown
-    /// type. At most one side is reported, the left one first.
+    /// Requires the same type of both operands of an operation. At most one operand is reported, the left one first.
+    /// Returns the required type if both operands have it, otherwise the unknown type.
     fn require_both(
         &self,
         faults: &mut Vec<Fault>,
@@ -221,7 +221,8 @@ impl<'t> Supposed<'t> {
         }
     }
 
-    /// Reports the faults of an expression. With `only_constants` a variable's name is a fault.
+    /// Reports the faults of an expression and returns its operand. If `only_constants` is true, a variable's name is a
+    /// fault.
     #[cycle(expressions)]
     pub(crate) fn expression(
         &self,
@@ -428,7 +429,7 @@ impl<'t> Supposed<'t> {
         Ok(operand.after_sign(of, operators::complement(operand.value)))
     }
 
-    /// Returns the operand of a name that must refer to a value.
+    /// Returns the operand of a name, and reports a fault if the name doesn't refer to a value.
     fn value_named(
         &self,
         faults: &mut Vec<Fault>,
@@ -468,7 +469,7 @@ impl<'t> Supposed<'t> {
         }
     }
 
-    /// Applies the selectors of a designator to `base`, the operand of its name.
+    /// Returns the operand of a designator whose name has the operand `base`, and reports the faults of its selectors.
     #[cycle(expressions)]
     pub(crate) fn apply_selectors(
         &self,
@@ -509,7 +510,8 @@ impl<'t> Supposed<'t> {
         }
     }
 
-    /// Selects an element. An index must be INTEGER even if the base isn't an array.
+    /// Returns the operand of an array's element, and reports the faults of the selection. An index must be INTEGER
+    /// even if the base isn't an array.
     fn select_element(
         &self,
         faults: &mut Vec<Fault>,
@@ -604,7 +606,7 @@ impl<'t> Supposed<'t> {
         Ok(TypeId::Unknown)
     }
 
-    /// Reports the faults of a constant's right side, and returns its value if there is none.
+    /// Reports the faults of a constant's right side. Returns its value, or None if there is a fault.
     pub(crate) fn constant_value(
         &self,
         faults: &mut Vec<Fault>,
@@ -618,8 +620,8 @@ impl<'t> Supposed<'t> {
         self.operand_value(faults, constant)
     }
 
-    /// Returns the value of a constant expression, or reports `ConstFault` if its evaluation fails.
-    /// An expression with another fault isn't evaluated.
+    /// Returns the value of a constant expression, or reports `ConstFault` if its evaluation fails. An expression with
+    /// another fault isn't evaluated; the result is then None.
     fn operand_value(
         &self,
         faults: &mut Vec<Fault>,
@@ -639,7 +641,7 @@ impl<'t> Supposed<'t> {
     }
 }
 
-/// Returns the operand of a constant's name.
+/// Returns the operand of a constant's name with this value.
 fn constant(value: Option<Scalar>, token: usize) -> Operand
     ensures { operand_of result
         ≡ a_constant_name (known_types []) (option_map scalar_value value) token }

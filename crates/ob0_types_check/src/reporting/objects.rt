@@ -1,4 +1,4 @@
-//! Converts the declarations of a valid module to the objects of its table.
+//! Converts the declarations that the walk found to objects of the declaration table.
 
 ghost use Rattle.std.specs.Prelude.{◌≡◌, IfOk, Some, map, option_map, slice_set};
 ghost use Rattle.ob0_types_table.specs.declared.known.Object.TheVariants as kind;
@@ -9,7 +9,7 @@ use ob0_scope_table::{READ, WRITE, WRITE_LN};
 use ob0_types_table::{Object, Standard};
 use std::alloc::{AllocError, Global};
 
-/// Converts the meanings of the declarations to objects.
+/// Returns the objects of declarations with these meanings, in the same order.
 pub(crate) fn objects_of(
     alloc: Global,
     meanings: Vec<Option<Meaning>>,
@@ -47,7 +47,8 @@ fn object_of(meaning: Meaning) -> Object
     }
 }
 
-/// Enters the standard procedures, which the walk treats as procedures with parameters.
+/// Replaces the objects of Read, Write and WriteLn by the standard procedures. The walk treats these names as
+/// procedures with parameters.
 pub(crate) fn define_standards(objects: &mut Vec<Option<Object>>)
     ensures { objects.new.items ≡ with_standards objects.old.items }
 {

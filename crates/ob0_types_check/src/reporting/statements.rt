@@ -16,7 +16,7 @@ use ob0_types_table::{Formal, TypeId};
 use std::alloc::AllocError;
 
 impl<'t> Supposed<'t> {
-    /// Reports the faults of a sequence, statement by statement.
+    /// Reports the faults of a sequence of statements, one statement after another.
     #[cycle(statements)]
     pub(crate) fn sequence(
         &self,
@@ -91,7 +91,7 @@ impl<'t> Supposed<'t> {
         self.right_side(faults, TypeId::Boolean, e)
     }
 
-    /// Requires this type of an expression, and reports its faults.
+    /// Reports the faults of an expression that must have the type `wanted`.
     fn right_side(
         &self,
         faults: &mut Vec<Fault>,
@@ -126,8 +126,8 @@ impl<'t> Supposed<'t> {
         self.right_side(faults, target.of, &a.value)
     }
 
-    /// Returns the type of the variable that is assigned to, or reports that the name isn't a
-    /// variable's.
+    /// Returns the type of the variable that is assigned to. If the name isn't a variable's, that is reported, and the
+    /// type is unknown.
     fn target_type(&self, faults: &mut Vec<Fault>, token: usize) -> Result<TypeId, AllocError>
         ensures { IfOk result (λ t. ReportsAfter faults.old.items faults.new.items t
             (target_meaning (facts_in self.now false) token)) }
@@ -162,7 +162,7 @@ impl<'t> Supposed<'t> {
         }
     }
 
-    /// Reports the faults of a call, according to what its name means.
+    /// Reports the faults of a call, depending on the meaning of its name.
     fn report_call(
         &self,
         faults: &mut Vec<Fault>,
@@ -214,7 +214,7 @@ impl<'t> Supposed<'t> {
         Ok(())
     }
 
-    /// Reports the faults of a procedure call's arguments. If their number is wrong, only that is
+    /// Reports the faults of a procedure call's arguments. If the number of arguments is wrong, that is the only fault
     /// reported.
     fn arguments(
         &self,
@@ -237,7 +237,7 @@ impl<'t> Supposed<'t> {
         Ok(())
     }
 
-    /// Reports the faults of an argument, including a mismatch with its parameter.
+    /// Reports the faults of one argument, including a mismatch with its formal parameter.
     fn argument(
         &self,
         faults: &mut Vec<Fault>,

@@ -1,5 +1,5 @@
-//! The state of the reporting walk: the types and declarations so far. Each may be unknown, as a
-//! whole or in parts.
+//! The state of the reporting walk: the types and declarations found so far. A type may be unknown, as a whole or in
+//! parts.
 
 ghost use Rattle.std.specs.Prelude.{◌≡◌, ◌≤◌, ◌∷◌, [], ◌++◌, ◌+◌, ◌^◌, map, IfOk, MatchResult, OnOk, option_map, slice_get, slice_index_or, None, Some};
 ghost use Rattle.ob0_types_table.specs.declared.types.TypeId.TheVariants as type;
@@ -17,12 +17,12 @@ use ob0_tree::text_at;
 use ob0_types_table::{Formal, MAX_DEPTH, MAX_SCALARS, TypeEntry, TypeId, add_entry};
 use std::alloc::{AllocError, Global};
 
-/// A declaration, with its type, value or parameters.
+/// The meaning of a declared name, with its type, value or parameters.
 #[derive(Drop)]
 pub(crate) enum Meaning {
-    /// A type's name, with the type.
+    /// The name of this type.
     Named(TypeId),
-    /// A constant, without a value if its right side has a fault.
+    /// The name of a constant with this value, or with None if its right side has a fault.
     Constant(Option<Scalar>),
     Variable(TypeId),
     Procedure(Vec<Formal>),
@@ -43,7 +43,7 @@ pub(crate) fn predeclared_meanings(alloc: Global) -> Result<Vec<Option<Meaning>>
     Ok(meanings)
 }
 
-/// Returns a procedure with one INTEGER parameter.
+/// Returns the meaning of a procedure with one INTEGER parameter.
 fn one_parameter(alloc: Global, by_place: bool) -> Result<Meaning, AllocError>
     ensures { IfOk result
         (λ m. known_meaning m
@@ -57,14 +57,14 @@ fn one_parameter(alloc: Global, by_place: bool) -> Result<Meaning, AllocError>
     Ok(Meaning::Procedure(formals))
 }
 
-/// The number of scalars in a type, and how many arrays and records are inside one another.
+/// The size of a type: the number of its scalars, and the depth to which its arrays and records are nested.
 #[derive(Clone, Copy)]
 pub(crate) struct Size {
     pub(crate) scalars: usize,
     pub(crate) depth: usize,
 }
 
-/// The size of an unknown type.
+/// The size of an unknown type, which counts no scalars.
 pub(crate) const NOTHING: Size = Size {
     scalars: 0,
     depth: 0,
@@ -77,7 +77,8 @@ const SCALAR: Size = Size {
 };
 
 impl Size {
-    /// Returns the size of an array with `count` elements of this size.
+    /// Returns the size of an array of `count` elements that each have this size. Numbers that don't fit 64 bits are
+    /// capped.
     pub(crate) fn array(self, count: usize) -> Size
         ensures { size_of result ≡ counted (array_size count (size_of self)) }
     {
@@ -87,7 +88,7 @@ impl Size {
         }
     }
 
-    /// Returns the size of two parts side by side.
+    /// Returns the size of two parts next to each other, such as two fields. Numbers that don't fit 64 bits are capped.
     pub(crate) fn and(self, other: Size) -> Size
         ensures { size_of result ≡ counted (beside (size_of self) (size_of other)) }
     {
@@ -97,7 +98,7 @@ impl Size {
         }
     }
 
-    /// Returns the size of a record whose fields have this total size: it has at least one scalar.
+    /// Returns the size of a record whose fields together have this size. A record has at least one scalar.
     pub(crate) fn record(self) -> Size
         ensures { size_of result ≡ counted (record_size (size_of self)) }
     {
@@ -117,8 +118,8 @@ impl Size {
     }
 }
 
-/// Adds two numbers. Returns an error if the sum doesn't fit 64 bits; no text is long enough for
-/// that.
+/// Returns the sum of two numbers, or an error if the sum doesn't fit 64 bits. No text is long enough for such an
+/// error.
 pub(crate) fn sum(a: usize, b: usize) -> Result<usize, AllocError>
     ensures { MatchResult result (λ n. n ≡ a + b) (λ _. 2 ^ 64 ≤ a + b) }
 {
@@ -128,14 +129,14 @@ pub(crate) fn sum(a: usize, b: usize) -> Result<usize, AllocError>
     }
 }
 
-/// The declarations and types of a module, as far as the walk has come.
+/// The declarations and types of a module that the walk has found so far.
 #[derive(Drop)]
 pub(crate) struct Supposed<'t> {
     pub(crate) resolved: &'t Resolved<'t>,
-    /// The declarations so far, by their ordinals. A name is bound only to an earlier
-    /// declaration.
+    /// The meanings of declarations by ordinal, or None for each declaration that isn't known yet. A name is bound only
+    /// to an earlier declaration.
     pub(crate) meanings: Vec<Option<Meaning>>,
-    /// The arrays and records so far, by their places in a `TypeId`.
+    /// The arrays and records found so far; a `TypeId` has an index into this list.
     pub(crate) composites: Vec<TypeEntry>,
 }
 
@@ -147,7 +148,7 @@ impl<'t> Supposed<'t> {
         text_at(self.resolved.tokens(), token)
     }
 
-    /// Returns the token after another. The end of the text is returned unchanged.
+    /// Returns the token after this one. The end of the text has no token after it and is returned unchanged.
     pub(crate) fn token_after(&self, token: usize) -> usize
         ensures { result ≡ token_after self.now.resolved.now.module_read.source token }
     {
@@ -158,7 +159,7 @@ impl<'t> Supposed<'t> {
         }
     }
 
-    /// Reports a fault that extends from the start of one token to the end of another.
+    /// Reports a fault whose span extends from the start of one token to the end of another.
     pub(crate) fn report(
         &self,
         faults: &mut Vec<Fault>,
@@ -180,7 +181,7 @@ impl<'t> Supposed<'t> {
         Ok(())
     }
 
-    /// Reports a fault at one token.
+    /// Reports a fault whose span is one token.
     pub(crate) fn report_at(
         &self,
         faults: &mut Vec<Fault>,
@@ -195,8 +196,8 @@ impl<'t> Supposed<'t> {
         self.report(faults, code, token, token)
     }
 
-    /// Returns what the name at a token means, or None if it is unbound or its declaration isn't
-    /// known yet.
+    /// Returns the meaning of the name at a token. Returns None if the name is unbound or its declaration isn't known
+    /// yet.
     pub(crate) fn meaning(&self, token: usize) -> Option<&Meaning>
         ensures { option_map (λ m. m.now) result ≡ supposed_meaning_at self.now token }
     {
@@ -206,7 +207,7 @@ impl<'t> Supposed<'t> {
         }
     }
 
-    /// Returns what the declaration with an ordinal is.
+    /// Returns the meaning of the declaration with this ordinal. Returns None if it isn't known yet.
     fn meaning_of(&self, ordinal: usize) -> Option<&Meaning>
         ensures { option_map (λ m. m.now) result
             ≡ slice_index_or self.now.meanings.items ordinal None }
@@ -220,7 +221,7 @@ impl<'t> Supposed<'t> {
         }
     }
 
-    /// Records what the declaration at a token is.
+    /// Records the meaning of the declaration at a token.
     pub(crate) fn define(&mut self, token: usize, meaning: Meaning)
         ensures { so_far_in self.new ≡ define (so_far_in self.old) (known_meaning meaning) token }
     {
@@ -261,7 +262,8 @@ impl<'t> Supposed<'t> {
         }
     }
 
-    /// Returns the element type of the array at a place.
+    /// Returns the element type of the array at an index of the list of arrays and records. The type is unknown if
+    /// there is no array.
     pub(crate) fn elements(&self, place: usize) -> TypeId
         ensures { result ≡ elements_of (slice_get self.now.composites.items place) }
     {
@@ -274,8 +276,8 @@ impl<'t> Supposed<'t> {
         }
     }
 
-    /// Returns the type of the first field with this name in the record at a place, or None if
-    /// there is no such field.
+    /// Returns the type of the first field with this name in the record at an index of the list of arrays and records.
+    /// Returns None if there is no such field.
     pub(crate) fn field(&self, place: usize, name: &str) -> Option<TypeId>
         ensures { result ≡ field_of (slice_get self.now.composites.items place) name.now }
     {
@@ -288,7 +290,8 @@ impl<'t> Supposed<'t> {
         }
     }
 
-    /// Returns the ordinal of the next ARRAY or RECORD word, which is inside `around` others.
+    /// Returns the ordinal of the next ARRAY or RECORD word, which is inside `around` other such words. Returns an
+    /// error if the number doesn't fit 64 bits.
     pub(crate) fn ordinal_here(&self, around: usize) -> Result<usize, AllocError>
         ensures { MatchResult result (λ n. n ≡ ordinal_here around (so_far_in self.now))
             (λ _. 2 ^ 64 ≤ ordinal_here around (so_far_in self.now)) }
@@ -296,8 +299,8 @@ impl<'t> Supposed<'t> {
         sum(self.composites.len(), around)
     }
 
-    /// Makes an array or record, whose word is this token. If it is too large, that is reported and
-    /// the type is unknown.
+    /// Adds an array or record whose word ARRAY or RECORD is this token, and returns its type. If it is too large, that
+    /// is reported, and the type is unknown.
     pub(crate) fn make(
         &mut self,
         faults: &mut Vec<Fault>,
@@ -317,7 +320,7 @@ impl<'t> Supposed<'t> {
     }
 }
 
-/// Returns the size of an array or a record.
+/// Returns the size of an array or record in the list.
 fn size_of_entry(entry: &TypeEntry) -> Size
     ensures { size_of result ≡ (made_type_of entry.now).size }
 {

@@ -1,4 +1,4 @@
-//! Reports the faults of written types, and makes these types.
+//! Reports the faults of types as they are written in the text, and makes these types.
 
 ghost use Rattle.std.specs.Prelude.{◌≡◌, ◌∷◌, ◌++◌, [], false, IfOk, OnOk, Some};
 ghost use Rattle.ob0_types_table.specs.declared.types.TypeId.TheVariants as type;
@@ -23,7 +23,7 @@ use ob0_tree::{ArrayType, FieldGroup, Fields, Names, RecordType, WrittenType};
 use ob0_types_table::{ArrayShape, Field, FieldTable, MAX_SCALARS, RecordShape, TypeEntry, TypeId};
 use std::alloc::{AllocError, Global};
 
-/// Returns a number from 1 to 65,536 as an array's length, and None for any other value.
+/// Returns a number from 1 to 65,536 as an array's length. Returns None for any other value.
 fn array_length(value: Scalar) -> Option<usize>
     ensures { result ≡ array_length (scalar_value value) }
 {
@@ -43,7 +43,7 @@ fn array_length(value: Scalar) -> Option<usize>
     }
 }
 
-/// The fields of a record so far, in order, and their total size.
+/// The fields of a record found so far, in order, and their total size.
 #[derive(Drop)]
 pub(crate) struct Gathered {
     fields: Vec<Field>,
@@ -72,8 +72,8 @@ impl Gathered {
     }
 }
 
-/// Returns the token RECORD. It precedes the first field's name and one semicolon for each group
-/// without fields before that name.
+/// Returns the token of the word RECORD. It precedes the first field's name and one semicolon for each group without
+/// fields before that name.
 fn record_word(groups: &[Fields]) -> usize
     ensures { result ≡ record_word (items_of further_fields_of_group groups.now) }
 {
@@ -90,7 +90,7 @@ fn record_word(groups: &[Fields]) -> usize
 }
 
 impl<'t> Supposed<'t> {
-    /// Returns the type that a name refers to, or reports that the name isn't a type's.
+    /// Returns the type that a name refers to. If the name isn't a type's, that is reported, and the type is unknown.
     fn type_named(&self, faults: &mut Vec<Fault>, token: usize) -> Result<TypeId, AllocError>
         ensures { IfOk result (λ t. ReportsAfter faults.old.items faults.new.items t
             (type_named (facts_in self.now false) token)) }
@@ -114,7 +114,8 @@ impl<'t> Supposed<'t> {
         Ok(TypeId::Unknown)
     }
 
-    /// Returns the length of an array from its operand, or None if it has a fault.
+    /// Returns the length of an array, given the operand of its length expression. If the length has a fault, it is
+    /// reported, and the result is None.
     fn length(&self, faults: &mut Vec<Fault>, operand: Operand) -> Result<Option<usize>, AllocError>
         ensures { IfOk result (λ n. ReportsAfter faults.old.items faults.new.items n
             (length_of (facts_in self.now false) (operand_of operand))) }
@@ -136,8 +137,7 @@ impl<'t> Supposed<'t> {
 }
 
 impl<'t> Reporter<'t> {
-    /// Reports the faults of a written type and returns the type, with unknown parts in place of
-    /// faulty ones.
+    /// Reports the faults of a written type and returns the type. Faulty parts of the type are unknown.
     pub(crate) fn written_type(&mut self, t: &WrittenType) -> Result<TypeId, AllocError>
         ensures { IfOk result (λ of. ReportsAfter self.old.faults.items self.new.faults.items
             (record { of = of; following = so_far_in self.new.supposed })
@@ -146,7 +146,7 @@ impl<'t> Reporter<'t> {
         self.type_inside(t, 0)
     }
 
-    /// Does the same for a type inside `around` words ARRAY and RECORD.
+    /// Reports the faults of a written type that is inside `around` words ARRAY and RECORD, and returns the type.
     #[cycle(types)]
     fn type_inside(&mut self, t: &WrittenType, around: usize) -> Result<TypeId, AllocError>
         ensures { IfOk result
@@ -178,8 +178,8 @@ impl<'t> Reporter<'t> {
         self.make_array(ordinal, size, length, element)
     }
 
-    /// Makes an array type. If the length has a fault, the array is unknown as a whole, although
-    /// its element type has been checked. The word ARRAY precedes the length.
+    /// Makes an array type. If the length has a fault (None), the array is unknown as a whole, although its element
+    /// type has been checked. The word ARRAY precedes the length.
     fn make_array(
         &mut self,
         ordinal: usize,
@@ -225,7 +225,7 @@ impl<'t> Reporter<'t> {
         self.make_record(word, ordinal, gathered)
     }
 
-    /// Returns the fields of all groups of a record.
+    /// Reports the faults of all groups of fields of a record, and returns the fields.
     #[cycle(types)]
     fn groups(&mut self, groups: &[Fields], around: usize) -> Result<Gathered, AllocError>
         ensures { IfOk result (λ gathered.
@@ -323,7 +323,7 @@ impl<'t> Supposed<'t> {
         Ok(())
     }
 
-    /// Adds a field.
+    /// Appends a field with this name and type to the fields of a record.
     fn gather(
         &self,
         alloc: Global,

@@ -3,7 +3,7 @@ use Rattle.std.specs.Vec.Iter.{into_iter_items, into_iter_len}
 use Rattle.ob0_types_check.specs.SupposedFacts.{table_object}
 use Rattle.ob0_types_check.proofs.reporting.objects.objects_of.Given as goal
 
--- the objects so far, before the objects of the remaining meanings
+-- The objects so far, followed by the objects of the remaining meanings, are the objects of all meanings.
 abbrev pub invariant-loop-meaning : goal.invariant-loop-meaning
 invariant-loop-meaning l =
     (map (option_map table_object) (into_iter_items l.initial.meaning-iterator) ≡ l.objects.items ++ map (option_map table_object) (into_iter_items l.meaning-iterator))
