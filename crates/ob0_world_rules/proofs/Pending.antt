@@ -1,5 +1,6 @@
--- What waits for the server, and what is published as it takes that: for each message that announces a document, the
--- server will hold, once it has taken it, the document as it was in the editor when the message was sent.
+-- Defines which announced documents still wait for the server, and proves that the server will publish them in order.
+-- For each message that announces a document, the server will have that document once it has taken the message. The
+-- document is as it was in the editor when the message was sent.
 use Rattle.std.proofs.Common.{◌≡◌, ◌∙◌, ℕ, List, [], ◌∷◌, ◌++◌, map, append-nil, append_assoc, refl, sym, ap, subst}
 use Rattle.std.specs.Prelude.{fold, Option, Some, None, option_map}
 use Rattle.std.proofs.lemmas.List.{map-append}
@@ -15,7 +16,7 @@ use Rattle.ob0_world_rules.specs.MadeInOrder.{Announced, announced_at, versions_
 abbrev pub AwaitedAt : OpenDocuments → List ℕ → List Announced → Type 0
 AwaitedAt held uri now = (o : Option Open) × (document_at held uri ≡ option_map as_open o) × (now ≡ announced_at uri o)
 
--- the documents that will be published for as this message is taken, where these were held before
+-- holds if these are the documents for which the server publishes when it takes this message and has these documents
 abbrev pub Awaits : OpenDocuments → ToServer → List Announced → Type 0
 Awaits held (notifies (Opened uri version text)) now = AwaitedAt (after_event held (Opened uri version text)) uri now
 Awaits held (notifies (Changed uri version how)) now = AwaitedAt (after_event held (Changed uri version how)) uri now
@@ -23,7 +24,7 @@ Awaits held (notifies (Lost uri)) now = now ≡ []
 Awaits held (notifies (Closed uri)) now = now ≡ []
 Awaits held (requests number uri ask) now = now ≡ []
 
--- and as each message that waits is taken
+-- holds if these are the documents for which the server will publish when it takes the messages of this queue, in order
 abbrev pub Pending : OpenDocuments → List ToServer → List Announced → Type 0
 Pending held [] waiting = waiting ≡ []
 Pending held (m ∷ queue) waiting =
@@ -66,7 +67,8 @@ message_made held (requests number uri ask) said made now (edits, answer, is_sai
 
 -- ---- the server's turn
 
--- These are announced of now, after those that publications were made for and those that wait: so it is after the event.
+-- States that after the event the documents announced so far, with those announced now, are those published for, then
+-- those that wait.
 pub record Next (announced waiting now : List Announced) (new : ClientAndServer) : Type 0 where
   pub done : List Announced
   pub awaits : List Announced
@@ -75,7 +77,7 @@ pub record Next (announced waiting now : List Announced) (new : ClientAndServer)
   pub pending : Pending new.held new.to_server awaits
 
 module _ (announced waiting : List Announced) where
-  -- nothing is announced, and the queue and the publications stay
+  -- An event that announces nothing and changes neither queue nor publications leaves them so.
   pub stays : (w : ClientAndServer) → AreMadeOf w.made announced → Pending w.held w.to_server waiting → Next announced waiting [] w
   stays w made_of pending = record { done = announced; awaits = waiting; parts = append-nil (announced ++ waiting); made_of = made_of; pending = pending }
 
