@@ -2,9 +2,11 @@
 //!
 //! A `Connection` has two parts. Its model is a client and a server by the rules (`ClientAndServer`): documents and
 //! messages. Its `Wire` is the session and all contents, those taken and those that wait, in each direction.
+//!
 //! `MovesWire` states what each event does to the session and the contents, and `IsTied` joins the two parts.
 //! (`Connection::contents_say_messages` is called only for its contract.) The contract of a step is by cases of the
 //! world before it (`WorldSteps`, `WorldFails`).
+//!
 //! `Plays` states the headline, and the connection's course (`ConnectionCourse`) from a session that has begun
 //! (`Begins`). The code returns the contents that passed. So even a body without a session would have to return the
 //! contents of a conversation.
