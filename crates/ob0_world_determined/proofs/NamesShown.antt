@@ -1,4 +1,4 @@
--- A question about what is at a place of a text has one answer.
+-- Proves that a question about the name at a place of a text has at most one answer.
 use Rattle.std.proofs.Common.{◌≡◌, ◌∙◌, ℕ, ◌+◌, ◌-◌, nat_lt, Bool, true, false, Option, Some, None, List, map, drop, get_or, if◌then◌else◌, refl, sym, ap, inl, inr}
 use Rattle.std.specs.Prelude.{option_and_then, option_map}
 use Rattle.std.specs.List.{filter}
@@ -35,14 +35,14 @@ use Rattle.ob0_world_rules.proofs.OneFields.{one_list_of_fields}
 use Rattle.ob0_world_rules.proofs.OneModule.{Same, same_module, one_name, identifiers_of}
 use Rattle.ob0_world_determined.specs.Determined.{OneTable}
 
--- the hover of a name, by the tokens and the tree over them
+-- returns the hover of a name, by the tokens and the tree over them
 abbrev hover_in_tree : Scanned → Tree ℕ module_text → Named → Option HoverText
 hover_in_tree s t n =
     option_map (λ text. record { span = span_at s n.token; text = text })
     (if nat_lt n.ordinal 7 then Some (predeclared_text (text_at s n.token))
     else option_and_then (object_hover (text_at s n.token) (map (text_at s) (drop (n.ordinal + 1 - 7) (declaring_only (identifiers role.Declaring t))))) (declared_object (named s t) n.ordinal))
 
--- the hover of an identifier of a field of a type
+-- returns the hover of a field's identifier, whose type is this one
 abbrev hover_of_shape : Scanned → ℕ → Shape → HoverText
 hover_of_shape s token of = record { span = span_at s token; text = field_text (text_at s token) (type_text of) }
 
@@ -121,7 +121,7 @@ module _ (tables : OneTable) (unit : Unit) (text : List ℕ) (at : At) where
           is ∙ ap (λ xs. array (items_of (map (location_at unit at.uri text) xs))) same ∙ sym is_too
       go renaming_asked h k = h ∙ ap (λ o. value_or_null (option_map (range_at unit text) o)) (same_renamable r q e fields table (offset_in unit text at)) ∙ sym k
 
-  -- a module's text is no other
+  -- A text that has a module is the text of a well-typed module.
   is_module : (r : Resolution) → IsModuleIn (utf8 text) r → IsWellTypedModule (utf8 text)
   is_module r h =
       record { tree = _; text_of = record { scanned = r.module_read.source; scan = h.scan; module_of = h.well_typed.resolved.parsed.module_of }; well_typed = h.well_typed.well_typed }
