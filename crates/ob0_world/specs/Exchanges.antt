@@ -404,9 +404,9 @@ abbrev pub published_in : List (List ℕ) → List Published
 published_in [] = []
 published_in (content ∷ contents) = with_version (understood [] content) ++ published_in contents
 
--- Holds if there are as many lists of diagnostics as documents, and each list is right for its
--- document. The n-th list has the uri and the version of the n-th document. It is empty exactly
--- when the document's text is a well-typed module.
+-- Holds if there are as many lists of diagnostics as documents. The n-th list has the uri and
+-- version of the n-th document, and is empty exactly when that document's text is a well-typed
+-- module.
 abbrev pub AreRightOf : List Published → List Announced → Type 0
 AreRightOf [] [] = ⊤
 AreRightOf (p ∷ published) (t ∷ announced) =

@@ -17,13 +17,13 @@ use Rattle.ob0_world_determined.specs.Determined.{MayServe, IsWritten}
 -- writes.
 pub record ServedExchange (begin now : Exchange) : Type 0 where
   pub holds : HoldsOfExchange begin now
-  -- Fed with the frames of the contents that the session took, `serve` writes the frames of the
-  -- contents that it sent. This holds unless `serve` returns `Memory` or `Write`.
+  -- Fed with the frames of the taken contents, `serve` writes the frames of the sent contents,
+  -- unless it returns `Memory` or `Write`.
   pub written : All (λ content. length content ≤ max_content) now.wire.taken
       → (put : List ℕ) (result : Result ℕ ServeFault) → IsWritten result
       → MayServe result (flat_map frame now.wire.taken) put
       → put ≡ flat_map frame (now.wire.got ++ now.wire.to_editor)
-  -- Fed with a longer input that begins with these frames, `serve` writes the same frames first.
+  -- for a longer input `serve` writes the same frames first
   pub written_first : All (λ content. length content ≤ max_content) now.wire.taken
       → (more put : List ℕ) (result : Result ℕ ServeFault) → IsWritten result
       → MayServe result (flat_map frame now.wire.taken ++ more) put
