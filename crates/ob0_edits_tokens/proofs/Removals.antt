@@ -58,7 +58,7 @@ module _ (text : List ℕ) (tokens : List Token) (new : List ℕ) (ws : List Wor
   abbrev cuts : List Cut
   cuts = removal tokens first last ∷ map (cut_of tokens new) places
 
-  -- states where a walk over the lexemes is: its offset, the index of the next token, and the
+  -- states the place of a walk over the lexemes: its offset, the index of the next token, and the
   -- tokens before it
   pub record At (at k : ℕ) (ls : List Lexeme) (done : List Token) : Type 0 where
     pub tokens_are : tokens ≡ done ++ tokens_from at ls

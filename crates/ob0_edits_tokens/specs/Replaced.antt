@@ -29,8 +29,8 @@ token_or_empty tokens p =
 abbrev pub span_at : List Token → ℕ → Span
 span_at tokens p = (token_or_empty tokens p).span
 
--- Holds if the places are indexes of identifiers among the tokens. They ascend, and none is below
--- the least.
+-- Holds if the places are indexes of identifiers among the tokens. They ascend, and each is at
+-- least `least`.
 abbrev pub AreNames : List Token → ℕ → List ℕ → Type 0
 AreNames tokens least [] = Unit {0}
 AreNames tokens least (p ∷ ps) =

@@ -31,7 +31,7 @@ use Rattle.ob0_inline.specs.Values.{value_factor, value_text}
 use Rattle.ob0_inline.proofs.AtUses.{literal_of, shown_is}
 use Rattle.ob0_inline.proofs.Refusals.{MakeText, Refused, other_is_first, refused_first}
 
--- If no number of a range passes a test, none of its numbers does.
+-- If a test finds no number in a range, each number of the range fails it.
 
 none_passes : (f : ℕ → Bool) (a n k : ℕ) → list_any f (range_with_len a n) ≡ false → k < n → f (a + k) ≡ false
 none_passes f a zero k e h = absurd (omega (arith, h))

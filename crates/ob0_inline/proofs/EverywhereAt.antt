@@ -102,7 +102,7 @@ agree r is d j i e =
     and_true false = refl
 
 module _ (r : Resolution) (is : IsResolution r) (d : ℕ) (w : Value) (has_value : value_of_constant (named_tree_of r.module_read) d ≡ Some w) (spelled : spell (tree_of r.module_read) ≡ numbered_tokens 0 (words_of r.module_read.source)) where
-  -- states where the constant's declaration and its uses are among the module's tokens
+  -- the places of the constant's declaration and uses among the module's tokens
   abbrev pub late_here : Late d 7 (names_in (module_block (tree_of r.module_read))) (numbered_tokens 0 (words_of r.module_read.source)) (spell (gone_module d (tree_of r.module_read))) (occurrences (tree_of r.module_read))
       (map (ordinal_in r.ordinals) (occurrences (tree_of r.module_read)))
   late_here = late_of r is d w has_value spelled

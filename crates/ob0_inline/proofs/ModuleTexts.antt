@@ -32,7 +32,7 @@ lexemes_placed text i (t ∷ ts) =
 pub spelled_by_words : (m : Parsed) → IsParsed m → spell (tree_of m) ≡ numbered_tokens 0 (words_of m.source)
 spelled_by_words m parsed = append_cancel_right (spell (tree_of m)) (numbered_tokens 0 (words_of m.source)) (EndOfText ∷ []) (parsed.places ∙ lexemes_placed m.source.text 0 m.source.tokens)
 
--- If both cases of a condition spell their trees, so does the conditional.
+-- A conditional spells its tree if both of its cases spell theirs.
 either_spelled : (b : Bool) (vs ws : List Word) (v w : Tree (List ℕ) factor) → map word_lexeme vs ≡ spell v → map word_lexeme ws ≡ spell w → map word_lexeme (if b then vs else ws) ≡ spell (if b then v else w)
 either_spelled true vs ws v w e f = e
 either_spelled false vs ws v w e f = f

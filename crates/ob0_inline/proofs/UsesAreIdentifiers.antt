@@ -118,8 +118,8 @@ word_number : (text : List ℕ) (ts : List Token) (k : ℕ) → number_at (map (
 word_number text (t ∷ ts) (suc k) = word_number text ts k
 word_number text _ _ = refl
 
--- If words replace the uses of a constant, and the uses are factors by themselves, the tokens are
--- those of a tree. It is the tree in which the factor of these words replaces the uses.
+-- If words replace the uses of a constant, and the uses are factors by themselves, the tokens spell
+-- a tree. It is the tree in which the factor of these words replaces the uses.
 module _ (r : Resolution) (is : IsResolution r) (d : ℕ) (v : Tree Name factor) (places : List ℕ) (bound : AreBound r d places) (uses : Uses) (agree : (j i : ℕ) → slice_get r.uses j ≡ Some i → is_among i places ≡ uses j)
     (alone : IsAlone r.module_read d) (vs : List Word) (same : map word_lexeme vs ≡ spell v) where
   abbrev gives : ℕ → Bool
@@ -150,7 +150,7 @@ module _ (r : Resolution) (is : IsResolution r) (d : ℕ) (v : Tree Name factor)
       puts (spell (tree_of m))
       ∙ sym (spelled gives uses v (leaf.text_at m.source) (leaf.value_at m.source) (occurrence_table r) (label_at m.source r.ordinals) d others apart 0 role.Declaring others (tree_of m) (uses_agree, uses_reported r is, none_elsewhere))
 
-  -- Without the declaration, the tokens are also those of a tree.
+  -- Without the declaration, the tokens also spell a tree.
   pub others_spelled : flat_map (put r.module_read.source places vs) (spell (gone_module d (tree_of r.module_read))) ≡ spell (module_without d (inline_in uses v 0 (named_tree_of r.module_read)))
   others_spelled =
       let m = r.module_read in

@@ -16,8 +16,8 @@ use ob0_text::{Edit, EditRefusal, Position, TextStore};
 use ob0_types::WellTyped;
 use std::alloc::Global;
 
-/// Returns the edit that writes a constant's value in place of the use at a place. If no use is
-/// there, the refusal is `NoName`.
+/// Returns the edit that writes a constant's value in place of the use at a place. If the place
+/// isn't on a use, the refusal is `NoName`.
 pub fn inline_here<T: TextStore>(
     alloc: Global,
     store: &T,

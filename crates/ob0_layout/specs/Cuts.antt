@@ -38,7 +38,7 @@ last_gap (Some b) = Line 0
 abbrev pub gap_cut : Indent → GapSite → Cut
 gap_cut indent g = record { from = g.start; to = g.end; new = gap_text indent g.gap }
 
--- returns those of the gaps that formatting changes
+-- returns the gaps of a list that formatting changes
 abbrev pub changed_sites : Indent → List ℕ → List GapSite → List GapSite
 changed_sites indent text gs = filter (λ (g : GapSite). is_changed text (gap_cut indent g)) gs
 

@@ -77,8 +77,8 @@ AnswersDeclaration r d (Err why) = (why ≡ refusal.Memory) ⊎ IsRefusedTo r d 
 
 -- ---- for a field
 
--- States that the edits write the new name where the field f of the record k is declared or
--- selected. They leave the module with that field renamed.
+-- States that the edits write the new name at the declaration and at all selections of the field f
+-- of the record k. They leave the module with that field renamed.
 pub record RenamesField (r : Renaming) (k : ℕ) (f : Name) (edits : List Edit) : Type 0 where
   pub identifier : IsIdentifier r.new
   pub free : FieldFree (named_tree r) k f r.new

@@ -1,5 +1,5 @@
--- Defines the renaming of the declaration or the record field at a place of a text: where the new
--- name is written, and its conflicts.
+-- Defines the renaming of the declaration or the record field at a place of a text: the places of
+-- the new name, and its conflicts.
 -- Rule: docs/PROTOCOL.md, Requests on documents 6, Refusals of edits.
 use Rattle.std.specs.Prelude.{◌≡◌, ℕ, Bool, true, false, nat_lt, if◌then◌else◌, List, [], Option, Some, None, option_and_then, option_map, slice_get}
 use Rattle.ob0_scan.specs.Scanned.{Scanned}

@@ -1,4 +1,4 @@
--- Proves that if a range of tokens is inside a body, so is a larger range: from the body's first
+-- Proves that a body that contains a range of tokens also contains a larger range: from its first
 -- identifier up to the closing name of its block.
 use Rattle.std.proofs.Common.{◌≡◌, ◌<◌, ◌≤◌, ℕ, zero, ◌+◌, Bool, true, false, ◌&&◌, nat_le, nat_lt, if◌then◌else◌, Some, List, [], ◌∷◌, ◌++◌, refl, sym, ap, ◌∙◌, subst, arith, append_assoc, append-nil, lt-ltb, le-ltb}
 use Rattle.std.proofs.lemmas.Bool.Decides.{nat_tests}

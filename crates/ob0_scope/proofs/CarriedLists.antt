@@ -19,7 +19,8 @@ use Rattle.ob0_scope.specs.declared.carrying.BodyRange.{BodyRange}
 
 -- ---- identifiers in three parts
 
--- states where the identifiers before a body, in it, and from its block's closing name onwards are
+-- states the bounds of the identifiers before a body, in it, and from its block's closing name
+-- onwards
 pub record Parted (before own after : List (Role × ℕ)) (first closing high : ℕ) : Type 0 where
   pub before_below : AllBelow first (names_only before)
   pub own_from : AllFrom first (names_only own)

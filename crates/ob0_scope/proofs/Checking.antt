@@ -41,8 +41,8 @@ gathers_on f {xs = xs} {done = done} {out = out} x own split w less here e =
 abbrev pub has : BTreeSet (Bor Name) → Name → Bool
 has seen x = contains_by (λ key. slice_cmp nat_cmp x key.now) seen
 
--- states that the set has the names so far, and that the faults so far, with those of the other
--- names, are all faults
+-- states that the set has the names so far, and that the faults so far and the faults of the other
+-- names are all faults
 pub record Seeing (source : Scanned) (all : List ℕ) (start : List Fault) (done : ℕ) (seen : Name → Bool) (now : List Fault) : Type 0 where
   pub before : List Name
   pub found : (x : Name) → seen x ≡ is_among x before
@@ -105,7 +105,7 @@ record_reported source start own after (g ∷ gs) fs are e f =
 five_names : (a b c d e : List ℕ) → (((a ++ b) ++ c) ++ d) ++ e ≡ a ++ (b ++ (c ++ (d ++ e)))
 five_names a b c d e = append_assoc ((a ++ b) ++ c) d e ∙ (append_assoc (a ++ b) c (d ++ e) ∙ append_assoc a b (c ++ (d ++ e)))
 
--- The faults of a block are those of its names, its types, its variables and its procedures.
+-- The faults of a block are reported for its names, its types, its variables and its procedures.
 pub block_reported : (source : Scanned) (start : List Fault) (own : List ℕ) (cs : Tree ℕ (maybe constants)) (ts : Tree ℕ (maybe type_names)) (vs : Tree ℕ (maybe variables)) (ps : Tree ℕ (items procedure)) (statements : Tree ℕ (maybe body))
     (all : List ℕ) (named typed varied after : List Fault) → all ≡ (((own ++ constant_names (section_constants cs)) ++ named_types (section_types ts)) ++ variable_names (section_variables vs)) ++ procedure_names ps
     → named ≡ start ++ again source [] all → typed ≡ named ++ types_twice source (section_types ts) → varied ≡ typed ++ variables_twice source (section_variables vs)
@@ -120,7 +120,7 @@ block_reported source start own cs ts vs ps statements all named typed varied af
     p ∙ (ap (λ z. z ++ P) (v ∙ ap (λ z. z ++ V) (t ∙ ap (λ z. z ++ T) first))
     ∙ (append_assoc ((start ++ D) ++ T) V P ∙ (append_assoc (start ++ D) T (V ++ P) ∙ append_assoc start D (T ++ (V ++ P)))))
 
--- The faults of a procedure are those of its closing name, its parameters' types and its block.
+-- The faults of a procedure are reported for its closing name, its parameters' types and its block.
 pub procedure_reported : (source : Scanned) (start closed typed : List Fault) (x : ℕ) (fs : Tree ℕ (maybe formals)) (b : Tree ℕ block) (closing : ℕ) (own : List ℕ) → closed ≡ start ++ closing_other source x closing
     → typed ≡ closed ++ formals_twice source (formal_sections fs) → own ≡ formal_names (formal_sections fs)
     → typed ++ block_twice source own b ≡ start ++ procedure_twice source (declares_procedure x fs b closing)

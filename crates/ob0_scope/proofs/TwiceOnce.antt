@@ -105,7 +105,7 @@ module _ (value : ℕ → ℕ) where
   abbrev named : {s : Sort} → Scanned → Tree ℕ s → Tree Name s
   named src t = mapped (text_at src) value t
 
-  -- The names and parts of a tree over tokens are spelled like those of the tree of names.
+  -- The spellings of the names of a tree over tokens are the names of the tree over names.
   names_texts : (src : Scanned) (ns : Tree ℕ names) → map (text_at src) (names_listed ns) ≡ names_listed (named src ns)
   names_texts src (listed x rest) = ap (λ l. text_at src x ∷ l) (further_texts rest)
     where

@@ -17,7 +17,8 @@ pub record AreNamedAlike (old new : Scanned) : Type 0 where
   pub same_kinds : kinds new.tokens ≡ kinds old.tokens
   pub same_names : names_in new.text new.tokens ≡ names_in old.text old.tokens
 
--- states that the bindings of a valid module are those of its tree over tokens that are named alike
+-- states that the bindings of a valid module don't change if its tree is over tokens that are named
+-- alike
 abbrev pub BindingsStay : Type 0
 BindingsStay =
     (old new : Scanned) (tree : ModuleTree) (b : Bindings)
@@ -34,8 +35,8 @@ pub record AreMoved (old new : Scanned) (b c : Bindings) : Type 0 where
   pub occurrences : c.occurrences.items ≡ b.occurrences.items
   pub faults : c.faults.items ≡ moved_faults old new b.faults.items
 
--- States that the bindings of a module are those of its tree over tokens with the same spellings.
--- The faults are at the same tokens.
+-- States that the bindings of a module don't change if its tree is over tokens with the same
+-- spellings. The faults are at the same tokens.
 abbrev pub BindingsKeepTokens : Type 0
 BindingsKeepTokens =
     (old new : Scanned) (tree : ModuleTree) (b c : Bindings)

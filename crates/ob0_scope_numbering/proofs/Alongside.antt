@@ -26,7 +26,7 @@ pub out_split : (out : ℕ → Bool) (xs ys : List ℕ) → AllOut out (xs ++ ys
 out_split out [] ys h = (tt, h)
 out_split out (x ∷ xs) ys h = let rest = out_split out xs ys h.1 in ((h.0, rest.0), rest.1)
 
--- If all tokens of two parts together pass a test, those of each part do.
+-- If all tokens of two parts together pass a test, the tokens of each part do.
 pub out_parts : (out : ℕ → Bool) (xs ys : List (Role × ℕ)) → AllOut out (names_only (xs ++ ys)) → AllOut out (names_only xs) × AllOut out (names_only ys)
 out_parts out [] ys h = (tt, h)
 out_parts out (x ∷ xs) ys h = let rest = out_parts out xs ys h.1 in ((h.0, rest.0), rest.1)
@@ -300,7 +300,7 @@ module _ (out : ℕ → Bool) (a b : Writing) (same_name : (i : ℕ) → out i �
       let kept : Goes x y (left_to (length x.scope) x₁) (left_to (length y.scope) y₁) = record { at = left; adds = record { firsts = q.adds.firsts; seconds = q.adds.seconds; first_is = q.adds.first_is; second_is = q.adds.second_is; alike = q.adds.alike } } in
       then_shown (length x.declarations) (length y.declarations) (ap length at.declarations) kept
 
-  -- Two walks past the end of a procedure's block end at the same place. Its name is visible again,
+  -- Two walks over the end of a procedure's block end at the same place. Its name is visible again,
   -- and its closing name is marked.
   pub ending_goes : (n closing k l outer out_too : ℕ) (x y : Visit) → out n ≡ true → k ≡ l → outer ≡ out_too → Beside x y
       → Goes x y (marked closing (Some k) (leave_block n k outer x)) (marked closing (Some l) (leave_block n l out_too y))

@@ -8,7 +8,7 @@ use Rattle.std.specs.Cmp.Lexicographic.{slice_cmp}
 use Rattle.std.specs.Ordering.{nat_cmp, ordering_then}
 use Rattle.ob0_language_names.specs.Names.{Name}
 
--- Appends a byte to a number as its last digit. Digits count to the base 256, and the number stays
+-- Appends a byte to a number as its last digit. Digits count to the base 256, and the result is
 -- below 2 ^ 64.
 abbrev pub with_byte : ℕ → ℕ → ℕ
 with_byte number byte = (number * 256 % 2 ^ 64 + byte) % 2 ^ 64

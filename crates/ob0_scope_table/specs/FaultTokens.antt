@@ -31,8 +31,8 @@ fault_at source f =
           record { start = (span_at source f.first).start; end = (span_at source f.last).end };
     }
 
--- Returns the index of the first token that doesn't begin before a place. For place 0, which no
--- token is taken to begin at, it is the number of tokens.
+-- Returns the index of the first token that doesn't begin before a place. For place 0 it is the
+-- number of tokens, as if no token began there.
 abbrev pub begun_at : List Token → ℕ → ℕ
 begun_at tokens place =
     if place == 0 then length tokens

@@ -22,7 +22,7 @@ abbrev pub begins_by : ℕ → List (Role × ℕ) → Bool
 begins_by low [] = false
 begins_by low (x ∷ xs) = nat_le x.1 low
 
--- whether a range of tokens is inside the statements of one block
+-- true if a range of tokens is inside the statements of one block
 abbrev mutual
   -- true if the range is in the statements of a block, or of a block in it
   pub is_in_block : ℕ → ℕ → Tree ℕ block → Bool

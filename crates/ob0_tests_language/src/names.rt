@@ -9,7 +9,7 @@ use std::alloc::{AllocError, Global};
 use std::process::Abort;
 
 /// Appends the meaning of the name at a byte offset, the places of its declaration and of its uses,
-/// and its hover text. Appends nothing if no name is there.
+/// and its hover text. Appends nothing if there is no name at the offset.
 pub fn push_name(
     alloc: Global,
     out: &mut String,

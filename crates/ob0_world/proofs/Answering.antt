@@ -1,9 +1,8 @@
--- Proves that the replies of a session, by its contract, are the replies of the model's server.
--- The main lemma is `served`. `request_served` has an arm for each request with edits, which goes through
--- `about_document`. Each has a lemma for a text in step: `formatted`, `renamed` or `inlined`.
--- Answers are stated in the session's own words (`GivesEdits`, `Refuses` by cases of the ask), so they are passed on
--- unchanged. Both asks to inline send the same request. The editor reads the action with the title that it asked for
--- (`actions_read_back`), if that is offered.
+-- Proves that the replies of a session, by its contract, are the replies of the model's server. The main lemma is
+-- `served`. `request_served` has a case for each request with edits, which uses `about_document` and a lemma for a text
+-- in step: `formatted`, `renamed` or `inlined`. Answers are stated in the session's own words (`GivesEdits`, `Refuses`
+-- by cases of the ask), so they are passed on unchanged. Both asks to inline send the same request. The editor reads
+-- the action with the title that it asked for (`actions_read_back`), if that is offered.
 use Rattle.std.proofs.Common.{◌≡◌, ◌∙◌, ℕ, Bool, true, false, cond, List, [], ◌∷◌, length, refl, sym, ap, subst, inl, inr, arith, ◌<◌}
 use Rattle.std.specs.Prelude.{◌⊎◌, ◌&&◌, min, ℤ, Vec, All, Option, Some, None, is_some, map, fold, filter_map, option_map, option_and_then, unwrap_or, codes, Ok}
 use Rattle.std.specs.List.{cons_option}
@@ -476,7 +475,7 @@ module _ (number_of : Data → Option ℕ) (requested : List SentAsk) where
       (λ version text. formatted id k uri indent before.held.unit version text sent of) (document_at before.held uri) refl
       (is ∙ ap (λ (x : Reaction). x.after) so) (subst (λ (x : Reaction). SaysReply x.say sent) so saying)
 
-  -- A request for the actions in a range is answered as an inlining if the offset of the range is that of the position.
+  -- A request for the actions in a range is answered as an inlining if the range and the position have the same offset.
   inline_served : (how : Inlining) (id : Data) (k : ℕ) (uri : List ℕ) (position : Position) (range : Range) (only : Option (List (List ℕ))) (params : Data) (before after : ServerState) (sent : List (List ℕ)) → before.phase ≡ Running → TakesActions before.client
       → Asks id k uri (inlining_at how position) → allows_inlining only ≡ true → ((unit : Unit) (text : List ℕ) → actions_offset unit text range ≡ place_at unit text position) → request_by_method (codes "textDocument/codeAction") params ≡ Ok (code_action uri range only)
       → after ≡ (answer_method before id (codes "textDocument/codeAction") params).after → SaysReply (answer_method before id (codes "textDocument/codeAction") params).say sent

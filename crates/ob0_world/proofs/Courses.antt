@@ -92,7 +92,7 @@ course_conversed : (begin : Connection) (events : List Event) (end : Connection)
 course_conversed begin [] end is h = subst (λ (w : Connection). Conversed w.wire) (sym is) h
 course_conversed begin (e ∷ events) end (between, step, rest) h = course_conversed between events end rest (moved_conversed e begin.wire between.wire step.moves h)
 
--- ---- what has come of it
+-- ---- the results of a course
 
 headline : (unit : Unit) (events : List event.Event) (w : ClientAndServer) (p : played.Played) → Course (start unit) (map event_of events) w → HasCome w p → Headline unit (map event_of events) (all_applied p) (all_made p)
 headline unit events w p course come =

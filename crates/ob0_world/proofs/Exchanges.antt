@@ -331,7 +331,7 @@ others_published [] none = refl
 others_published (None ∷ said) none = others_published said none
 others_published (Some m ∷ said) none = absurd (cc)
 
--- returns a publication of the model as it was sent: its uri, its version and whether it is empty
+-- returns the sent parts of a publication of the model: its uri, its version and whether it is empty
 abbrev named : Made → Published
 named m = record { uri = m.uri; version = m.version; empty = m.empty }
 
@@ -627,14 +627,14 @@ right_of (m ∷ made) (t ∷ announced) all ((uri_is, version_is, text_is), rest
 right_of [] (t ∷ announced) all h = absurd h
 right_of (m ∷ made) [] all h = absurd h
 
--- The last publication for a uri, as it was sent, is the last of those that were sent.
+-- The sent parts of the last publication for a uri are the last sent parts for that uri.
 last_named : (uri : List ℕ) (last : Option Made) (made : List Made)
     → fold (λ last p. cond (bytes_eq p.uri uri) (Some p) last) (option_map named last) (map named made) ≡ option_map named (fold (λ last m. cond (bytes_eq m.uri uri) (Some m) last) last made)
 last_named uri last [] = refl
 last_named uri last (m ∷ made) =
     ap (λ o. fold (λ last p. cond (bytes_eq p.uri uri) (Some p) last) o (map named made)) (sym (mapped_choice named (bytes_eq m.uri uri) (Some m) last)) ∙ last_named uri (cond (bytes_eq m.uri uri) (Some m) last) made
 
--- If all publications are right, so is the last one for a uri.
+-- If all publications are right, the last one for a uri is right.
 last_right : (uri : List ℕ) (last : Option Made) (made : List Made) → MatchOption last ⊤ IsRight → All IsRight made → MatchOption (fold (λ last m. cond (bytes_eq m.uri uri) (Some m) last) last made) ⊤ IsRight
 last_right uri last [] h all = h
 last_right uri last (m ∷ made) h all = last_right uri (cond (bytes_eq m.uri uri) (Some m) last) made (go (bytes_eq m.uri uri)) (All-tail IsRight m made all)
@@ -648,7 +648,7 @@ latest_right : (d : Open) (o : Option Made) → MatchOption o ⊥ (λ m. (m.vers
 latest_right d None h right = h
 latest_right d (Some m) h right = (h.0, subst (λ text. IsEmptyIfCorrect text m.empty) h.1 right)
 
--- ---- what waits, as it is read
+-- ---- the meaning of waiting contents
 
 -- Without known asks no request is read.
 none_read : (o : Option ℕ) → option_and_then (request_read []) o ≡ None

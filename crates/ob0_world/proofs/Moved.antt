@@ -47,7 +47,7 @@ act_grows e = of_each e (λ done. Grows e done.editor) (record {
 pub grown : (e new : Editor) (done : Done) → Grows e done.editor → new ≡ done.editor → Grows e new
 grown e new done (more, grows) is = (more, ap (λ (x : Editor). x.requested) is ∙ grows)
 
--- ---- what waits stays sound
+-- ---- waiting contents are still messages
 
 pub grown_sound : (e new : Editor) (q r : Contents) (s : ServerState) → Grows e new → Sound e.requested q r s → Sound new.requested q r s
 grown_sound e new q r s (more, is) sound =
@@ -246,7 +246,7 @@ taken_happens e new q r rest s ap_list md c m first means is =
     of_message (publishes uri version empty) = refl
     of_message (answers k edits) = refl
 
--- ---- what waits
+-- ---- waiting contents
 
 module _ (s : ServerState) (tk q gt r : Contents) where
   pub writes_none : WritesContent (wire_from s tk q gt r) (wire_from s tk q gt r)

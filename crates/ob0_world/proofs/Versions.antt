@@ -318,7 +318,7 @@ serve_known old new (m ∷ rest) (content ∷ contents) waits (says_this, others
 serve_known old new [] (content ∷ contents) waits says_all happens moves k tied reached = absurd says_all
 serve_known old new (m ∷ rest) [] waits says_all happens moves k tied reached = absurd says_all
 
--- Taking a message doesn't change what the editor requested, nor what waits for the server.
+-- Taking a message changes neither the editor's requests nor the messages that wait for the server.
 take_keeps : (w : ClientAndServer) (queue : List ToEditor) (contents : List (List ℕ)) → AsksOf w → All (NamesItsAsk w.editor.requested) contents → AsksOf (after_taking w queue) × All (NamesItsAsk (after_taking w queue).editor.requested) contents
 take_keeps w [] contents asked named = (asked, named)
 take_keeps w (publishes uri version empty ∷ rest) contents asked named = (asked, named)

@@ -132,8 +132,7 @@ HasPassed w p =
     × (bytes p.unread.items ≡ w.to_editor)
 
 -- States the headline of a list of events, with the edits and publications that the code returns.
--- The events were also those of a session, which took these contents and sent these since its
--- beginning.
+-- In these events a session, from its beginning, took and sent the contents that the code returns.
 pub record Plays (unit : Unit) (events : List event.Event) (p : played.Played) : Type 0 where
   pub headline : Headline unit (map event_of events) (all_applied p) (all_made p)
   pub begin : Connection

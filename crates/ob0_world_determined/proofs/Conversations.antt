@@ -35,7 +35,7 @@ module _ (says : OneReply) where
   pub one_answer : OneAnswer
   one_answer before content sent more after other h k = in_phase_one before.phase before content sent more after other h k
 
--- ---- contents in turn
+-- ---- several contents
 
 pub one_conversation : OneAnswer → OneConversation
 one_conversation one before [] sent more after other h k = (h.0 ∙ sym k.0, h.1 ∙ sym k.1)

@@ -39,7 +39,7 @@ no_line_in_front h x left more whole same shorter n ends =
 
 -- ---- what of a bad front is bad
 
--- Bytes without an empty line are bad if they are as long as a head may be. So it is decidable whether they are bad.
+-- Bytes without an empty line are bad if they are as long as a head may be. So the property is decidable.
 by_length : (left : List ℕ) → HasNoEmptyLine left → IsBad left ⊎ ¬ (IsBad left)
 by_length left none =
     elim (cases_lt (length left) 4096) [
@@ -124,7 +124,7 @@ framed_from first f = elim f.bad [
   | inr not ↦ record { contents = f.contents; rest = Open f.left; feeds = (f.frames, not) }
 ]
 
--- If the whole stream has a list of contents, so do its first bytes.
+-- If the whole stream has a list of contents, its first bytes have one.
 pub framed_first : (first second : List ℕ) (e : Contents) (end : Rest) → Feeds (Open []) (first ++ second) e end → Framed first
 framed_first first second e (Open q) all = framed_from first (front_frames first second e q all.0 (inr all.1))
 framed_first first second e Broken all = framed_from first (front_frames first second e all.0 all.1 (inl all.2))

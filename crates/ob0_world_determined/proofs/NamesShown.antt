@@ -62,7 +62,7 @@ module _ (r q : Resolution) (e : Same r.module_read q.module_read) (fields : fie
   same_hover : hover_at_place r offset ≡ hover_at_place q offset
   same_hover = λ i. option_and_then (λ (x : Identified). one_hover x.token x.means i) (same_meant i)
 
-  -- ---- where it is declared
+  -- ---- the place of its declaration
 
   one_declaration : (token : ℕ) (x : Meant) → declared_meant r.module_read token x ≡ declared_meant q.module_read token x
   one_declaration token (Name ordinal) = λ i. option_map (span_at (e.source i)) (token_declaring (declaring_only (identifiers role.Declaring (e.tree i))) ordinal)
@@ -71,7 +71,7 @@ module _ (r q : Resolution) (e : Same r.module_read q.module_read) (fields : fie
   same_definition : definition_at r offset ≡ definition_at q offset
   same_definition = λ i. option_and_then (λ (x : Identified). one_declaration x.token x.means i) (same_meant i)
 
-  -- ---- where it is named
+  -- ---- the places of its uses
 
   field_referred : (x : FieldName) (include : Bool) → field_references r x include ≡ field_references q x include
   field_referred x true = λ i. tokens_among (e.source i) x.owner (text_at (e.source i) x.token) (fields i)
@@ -89,7 +89,7 @@ module _ (r q : Resolution) (e : Same r.module_read q.module_read) (fields : fie
   same_references : (include : Bool) → references_at r offset include ≡ references_at q offset include
   same_references include = named_in_one include (meant_at r offset) ∙ ap (named_by q include) same_meant
 
-  -- ---- whether it can be renamed
+  -- ---- the range to rename
 
   one_renamable : (token : ℕ) (x : Meant) → renamable_meant r.module_read token x ≡ renamable_meant q.module_read token x
   one_renamable token (Name ordinal) = λ i. if nat_lt ordinal 7 then None else Some (span_at (e.source i) token)

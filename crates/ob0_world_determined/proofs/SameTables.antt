@@ -18,7 +18,7 @@ use Rattle.ob0_types_check.specs.StatementFaults.{reported_sequence}
 use Rattle.ob0_types_check.specs.TypeFaults.{length_of, reported_constant, type_named}
 use Rattle.ob0_types_check.specs.WrittenTypeFaults.{Gathered, array_made, array_size, beside, gathered_after, nothing_gathered, ordinal_here, record_made, record_size, record_word, reported_fields, reported_groups, reported_type, with_name, with_field_names, word_before}
 
--- ---- the same but for tables that have the same ordinals
+-- ---- states that differ only in tables with the same ordinals
 
 abbrev pub Agree : List (Option ℕ) → List (Option ℕ) → Type 0
 Agree a b = (token : ℕ) → ordinal_in a token ≡ ordinal_in b token
@@ -55,7 +55,7 @@ after : {B : Type 0} {S : B → B → Type 0} {before following : List Fault} {u
     → Both S (record { known = u.known; faults = before ++ u.faults }) (record { known = v.known; faults = following ++ v.faults })
 after first next = record { known = next.known; faults = λ i. first i ++ next.faults i }
 
--- ---- what is known
+-- ---- known facts
 
 same_facts : (p q : SoFar) (only : Bool) → Like p q → facts_at p only ≡ facts_at q only
 same_facts p q only like = λ i. record {

@@ -70,7 +70,7 @@ begins_other (x ∷ xs) ys (z ∷ zs) ws e =
       | inr (mid, is) ↦ inr (mid, λ i. first_of e i ∷ is i)
     ]
 
--- ---- what was read is answered up to an `exit`, or wholly
+-- ---- the contents read are answered up to an `exit`, or all of them
 
 abbrev pub OneFeed : Type 0
 OneFeed = (from r q : Rest) (piece : List ℕ) (c d : Contents) → Feeds from piece c r → Feeds from piece d q → (c ≡ d) × (r ≡ q)

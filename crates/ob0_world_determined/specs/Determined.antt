@@ -47,8 +47,8 @@ OneAnswer =
     → Answers before content sent after → Answers before content other end
     → (sent ≡ other) × (after ≡ end)
 
--- states that the state before a conversation and the contents that are taken determine the replies
--- and the state after it
+-- states that the state before a conversation and its contents determine the replies and the state
+-- after it
 abbrev pub OneConversation : Type 0
 OneConversation =
     (before : ServerState) (contents sent other : List (List ℕ)) (after end : ServerState)

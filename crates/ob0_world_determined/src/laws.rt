@@ -37,8 +37,7 @@ pub fn one_answer()
     one_reply();
 }
 
-/// Proves that the state before a conversation and the contents that are taken determine the replies and the state
-/// after it.
+/// Proves that the state before a conversation and its contents determine the replies and the state after it.
 pub fn one_conversation()
     ensures { OneConversation }
 {

@@ -36,7 +36,7 @@ numbered_past xs n i is past =
 
 -- ---- the place of an answer
 
--- states that none of the answers before place i is the answer to ask k
+-- states that no answer before place i is the answer to ask k
 pub record Looked (xs : List answer.HeldAnswer) (k i : ℕ) : Type 0 where
   pub held : kept_answer k (map answer_of xs) ≡ kept_answer k (map answer_of (drop i xs))
   pub rest : all_but k (map answer_of xs) ≡ map answer_of (take i xs) ++ all_but k (map answer_of (drop i xs))
@@ -58,7 +58,7 @@ none_goes k (a ∷ rest) h = go (a.number == k) h (none_goes k rest)
     go true h next = absurd (cc)
     go false h next = ap (λ xs. a ∷ xs) (next h)
 
--- ---- what becomes of an answer
+-- ---- the outcome for an answer
 
 pub edits_at : (xs : List answer.HeldAnswer) (i : ℕ) (a : answer.HeldAnswer) → i < length xs → a ≡ get_or xs i a → Some (replacements a.edits.items) ≡ option_map (λ (x : answer.HeldAnswer). replacements x.edits.items) (slice_get xs i)
 edits_at xs i a h at = sym (ap (option_map (λ (x : answer.HeldAnswer). replacements x.edits.items)) (slice_get_read xs (length xs) i a refl h at))

@@ -75,8 +75,8 @@ action_items title value =
     (option_and_then (get (codes "edit")) (option_and_then (titled_action title) (as_array value)))
 
 -- Returns the list of edits in the result of an ask, or None. The result of a rename is a
--- WorkspaceEdit. That of an inlining is a list of actions, one of which has the title that was
--- asked for. That of a formatting is a list of edits.
+-- WorkspaceEdit. An inlining has a list of actions, one of which has the title that was asked for.
+-- A formatting has a list of edits.
 abbrev pub items_for : Ask → Data → Option Items
 items_for (rename position name) value = workspace_items value
 items_for (inline_here position) value = action_items (codes "Inline here") value

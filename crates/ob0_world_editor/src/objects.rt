@@ -3,7 +3,7 @@
 //! The editor's messages are types that write themselves. An object with one member is a `OneMember`. One with two or
 //! three members is written by one call of a function here, and its proof applies `object_of` to that call's clause.
 //!
-//! A `?` costs most of a check. So no `write` has one, except those of objects with four members and of the list of
+//! A `?` costs most of a check. So no `write` has one, except for objects with four members and for the list of
 //! changes.
 ghost use Rattle.std.specs.Prelude.{OnOk};
 ghost use Rattle.serde_json.specs.Data.{member, no_members};

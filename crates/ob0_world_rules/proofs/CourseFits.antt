@@ -16,7 +16,7 @@ use Rattle.ob0_world_rules.specs.Happens.{Event, does, serve, take_message, afte
 use Rattle.ob0_world_rules.specs.Laws.{HasAnswers, IsAnswerable, ACourseFits}
 use Rattle.ob0_world_rules.proofs.Acts.{applied_so}
 
--- ---- what is asked has answers
+-- ---- asks have answers
 
 -- holds if the message isn't a request, or is a request that has answers
 abbrev CanBeReplied : ToServer → Type 0

@@ -40,7 +40,7 @@ pub others_push : {A : Type 0} (queue : List (Option A)) (more : List A) → wit
 others_push queue more = others_append queue (map Some more) ∙ ap (λ ms. without_others queue ++ ms) (others_none more)
 
 module _ (unit : Unit) where
-  -- ---- what every turn keeps
+  -- ---- the invariant of every turn
 
   -- states the invariant: the model's state is `Kept`, and the publications are made for the announced documents, in
   -- order

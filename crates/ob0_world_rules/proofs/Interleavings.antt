@@ -248,8 +248,8 @@ module _ (unit : Unit) where
   abbrev pub Both : ClientAndServer → Type 0
   Both w = Kept unit w × AreLatest w.held w.made
 
-  -- If the server will have the text of each request in a queue, it has that of the first message, and of the rest
-  -- later.
+  -- If the server will have the text of each request in a queue, that holds of the first message, and later of the
+  -- rest.
   sees_first : (e : List SentAsk) (held : OpenDocuments) (m : ToServer) (rest : List ToServer) → AsksSee e held (m ∷ rest) → Meets e held m × AsksSee e (after_message held m) rest
   sees_first e held (notifies note) rest h = (tt, h)
   sees_first e held (requests k uri ask) rest h = ((h.0, tt), h.1)

@@ -47,7 +47,7 @@ by_turn w announced new more turn happens = record { turns = turn ∷ []; lead =
 by_quiet_turn : (w : ClientAndServer) (announced : List Announced) (new : ClientAndServer) (turn : Turn) → MayHappen (from_model w announced) turn (from_model new announced) → ComesTo w announced new []
 by_quiet_turn w announced new turn happens = by_turn w announced new [] turn (subst (λ ts. MayHappen (from_model w announced) turn (from_model new ts)) (sym (append-nil announced)) happens)
 
--- No turns lead to an equal state.
+-- An equal state is reached without any turn.
 as_it_was : (w new : ClientAndServer) (announced : List Announced) → new ≡ w → ComesTo w announced new []
 as_it_was w new announced is = record { turns = []; lead = λ i. from_model (is i) (append-nil announced i) }
 
@@ -95,7 +95,7 @@ applied_so e k edits a d text answered numbered same as_asked makes =
       is = refl;
     }
 
--- ---- what the model's editor knows of its asks
+-- ---- the asks of the model's editor
 
 knows_act : (e : Editor) (act : Act) → Knows e → Knows (done_by e act).editor
 knows_act e act knows =
@@ -226,7 +226,7 @@ course_comes (event ∷ events) w announced new knows (between, happens, run) =
       };
     }
 
--- A state of the model that is read as an exchange with any editor and back is the same.
+-- Translating a state of the model to the model of every editor and back gives the same state.
 as_it_is : (w : ClientAndServer) (announced : List Announced) → as_model (from_model w announced) ≡ w
 as_it_is w announced i = record w { to_server = others_none w.to_server i; to_editor = others_none w.to_editor i }
 

@@ -44,7 +44,7 @@ is_declared_in s t d new = elim (token_declaring (declaring_only (identifiers ro
 abbrev tokens_in : Scanned → Tree ℕ module_text → ℕ → Name → List ℕ
 tokens_in s t d new = if is_declared_in s t d new then [] else map (λ x. x.0.1) (filter (refers true d) (identifiers_of s t))
 
--- ---- the refusals, by what they say
+-- ---- the refusals, by their reasons
 
 module _ (unit : Unit) (text : List ℕ) (place : Position) (new : Name) (names : Resolution) where
   abbrev of_names : Renaming

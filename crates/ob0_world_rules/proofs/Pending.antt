@@ -11,7 +11,7 @@ use Rattle.ob0_world_rules.specs.Happens.{ServerTakes}
 use Rattle.ob0_world_rules.specs.Mirror.{as_open}
 use Rattle.ob0_world_rules.specs.MadeInOrder.{Announced, announced_at, versions_announced, named_in, versioned_uri, AreMadeOf}
 
--- ---- what waits for the server
+-- ---- the documents that wait for the server
 
 abbrev pub AwaitedAt : OpenDocuments → List ℕ → List Announced → Type 0
 AwaitedAt held uri now = (o : Option Open) × (document_at held uri ≡ option_map as_open o) × (now ≡ announced_at uri o)
@@ -40,7 +40,7 @@ pending_named held [] waiting is = ap (map versioned_uri) is
 pending_named held (m ∷ queue) waiting (now, later, is, so, rest) =
     ap (map versioned_uri) is ∙ map-append versioned_uri now later ∙ ap (λ ns. ns ++ map versioned_uri later) so.1 ∙ ap (λ ns. versions_announced m ++ ns) (pending_named (after_message held m) queue later rest)
 
--- ---- what is made as a message is taken
+-- ---- publications when the server takes a message
 
 pub made_append : (made more : List Made) (announced later : List Announced) → AreMadeOf made announced → AreMadeOf more later → AreMadeOf (made ++ more) (announced ++ later)
 made_append [] more [] later h k = k

@@ -66,7 +66,7 @@ left docs uri q d h = go (bytes_eq q uri) (sym (get_removed docs uri q) ∙ h)
     go true h = absurd (none-some d h)
     go false h = h
 
--- An editor with other requests or answers has the same documents.
+-- Changing the editor's requests or answers doesn't change the document of any request.
 later_documents : (e : Editor) (list : List SentAsk) (kept : List Answer) → Later e (record e { requested = list; answers = kept })
 later_documents e list kept =
     record {
@@ -74,7 +74,7 @@ later_documents e list kept =
       same = λ a d past same. record { at = same.at; opening = same.opening; version = same.version };
     }
 
--- Opening a document makes no earlier request's document, since its opening number is fresh.
+-- Opening a document doesn't give an earlier request its document back, since the opening number is fresh.
 later_open : (e : Editor) (uri : List ℕ) (new : Open) → new.opening ≡ e.openings + 1 → Later e (record e { documents = map_of.insert e.documents uri new; openings = e.openings + 1 })
 later_open e uri new fresh =
     record {
@@ -91,7 +91,7 @@ later_open e uri new fresh =
         let equal : e.openings + 1 ≡ a.opening = sym fresh ∙ ap (λ y. y.opening) is ∙ opening in
         omega arith
 
--- Revising a document makes no earlier request's document, since its version rises.
+-- Revising a document doesn't give an earlier request its document back, since the version rises.
 later_revise : (e : Editor) (uri : List ℕ) (d new : Open) → new.opening ≡ d.opening → d.version < new.version → open_at e uri ≡ Some d → Later e (record e { documents = map_of.insert e.documents uri new })
 later_revise e uri d new same_opening rises was_open =
     record {

@@ -89,7 +89,7 @@ after_move w done announced =
     }
 
 -- Holds if the server takes the first message that waits for it. If that is one of the other
--- messages, no document changes, and any replies are other messages too.
+-- messages, no document changes, and all replies are other messages.
 abbrev pub TakesNext : EditorAndServer → List (Option ToServer) → EditorAndServer → Type 0
 TakesNext w [] new = new ≡ w
 TakesNext w (None ∷ rest) new =

@@ -10,7 +10,8 @@ use Rattle.ob0_world_rules.specs.Happens.{Event, Course}
 
 -- ---- an applied edit
 
--- states that the edit turns a well-typed module into a well-typed module with the same run
+-- states that the edit leaves a well-typed module, with the same run as the well-typed module
+-- before it
 pub record KeepsTheRun (a : Applied) : Type 0 where
   pub before_fits : WellTypedText a.before
   pub after_fits : WellTypedText a.after

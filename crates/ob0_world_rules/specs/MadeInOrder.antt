@@ -11,7 +11,7 @@ use Rattle.ob0_world_rules.specs.Happens.{Event, does, serve, take_message, Happ
 
 -- ---- the documents that the editor announced
 
--- a document as it was when the editor announced it to the server
+-- a document in the state in which the editor announced it to the server
 pub record Announced : Type 0 where
   pub uri : List ℕ
   pub document : Open

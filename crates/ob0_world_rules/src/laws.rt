@@ -8,7 +8,8 @@ pub fn in_every_interleaving()
     ensures { InEveryInterleaving }
 {}
 
-/// Proves that edits that answer an ask turn a well-typed module into a well-typed module with the same run.
+/// Proves that edits that answer an ask leave a well-typed module, with the same run as the well-typed module before
+/// them.
 pub fn edits_keep_the_run()
     ensures { EditsKeepTheRun }
 {}
