@@ -18,7 +18,7 @@ pub made_step : (w old : World) (event : Event) (seen : Seen) (new : World) → 
 made_step w old event seen new same on shows moves tied counted goes_on =
     subst (λ (x : World). WorldSteps x event seen new) same (subst (λ b. StepsFrom b w event seen new) (sym on) (record { made = record { happens = shows.0; moves = moves; tied = tied }; shown = shows.1; counted = counted; goes_on = goes_on }))
 
--- A step of a world that hasn't ended is made.
+-- A step of a world that hasn't ended is a step that is made and counted.
 pub step_made : (old : World) (event : Event) (seen : Seen) (new : World) → old.ended ≡ false → WorldSteps old event seen new → StepsFrom false old event seen new
 step_made old event seen new on steps = subst (λ b. StepsFrom b old event seen new) on steps
 

@@ -1,5 +1,6 @@
--- Proves that an answer mentions the document that was asked about. When the server takes a request, its document has
--- the version that the editor had when it sent the request (`AsksHeld`). A session writes the version that it has.
+-- Proves that an answer with edits mentions the document that was asked about. When the server takes a request, its
+-- document has the version that the editor had when it sent the request (`AsksHeld`). A session writes the version that
+-- it has.
 use Rattle.std.proofs.Common.{◌≡◌, ◌∙◌, ℕ, suc, Bool, true, false, cond, List, [], ◌∷◌, ◌++◌, length, append-nil, refl, sym, ap, subst, inl, inr, ◌+◌, ◌&&◌}
 use Rattle.std.specs.Prelude.{◌⊎◌, ⊤, ℤ, pos, negsuc, Vec, All, Option, Some, None, is_some, fold, option_map, option_and_then, codes, Ok, ◌==◌}
 use Rattle.std.specs.declared.alloc.Global.{Global}
@@ -131,7 +132,7 @@ same_data content d e one other = same_Some d e (sym one.1 ∙ other.1)
 abbrev Names : List SentAsk → ℕ → Data → Type 0
 Names requested k answer = (a : SentAsk) × (request_numbered requested k ≡ Some a) × NamesAsked a answer
 
--- If one message is sent and it mentions its ask's document, all sent contents do.
+-- If one message is sent, `NamesItsAsk` holds of the sent contents if it holds of that message.
 sent_one : (requested : List SentAsk) (message : Data) (sent : List (List ℕ)) → Sends message sent → ((k : ℕ) → option_and_then request_number (get (codes "id") message) ≡ Some k → Names requested k message) → All (NamesItsAsk requested) sent
 sent_one requested message sent (content, is, writes) names =
     subst (All (NamesItsAsk requested)) (sym is) (All-push (NamesItsAsk requested) [] content (All-nil (NamesItsAsk requested)) this)
@@ -144,7 +145,7 @@ sent_one requested message sent (content, is, writes) names =
 sent_none : (requested : List SentAsk) (sent : List (List ℕ)) → sent ≡ [] → All (NamesItsAsk requested) sent
 sent_none requested sent none = subst (All (NamesItsAsk requested)) (sym none) (All-nil (NamesItsAsk requested))
 
--- A publication answers no request, so it needn't mention one.
+-- A publication answers no request, so `NamesItsAsk` holds of it.
 published_names : (requested : List SentAsk) (unit : Unit) (uri : List ℕ) (o : Option Document) (sent : List (List ℕ)) → SaysReply (published unit uri o) sent → All (NamesItsAsk requested) sent
 published_names requested unit uri (Some (InStep version text)) sent (ds, diagnoses, sends) = sent_one requested (publication uri (Some version) ds) sent sends (λ k numbered. absurd (none-some k numbered))
 published_names requested unit uri (Some OutOfStep) sent saying = sent_none requested sent saying
@@ -242,7 +243,7 @@ module _ (requested : List SentAsk) (k : ℕ) (uri : List ℕ) (sent : List (Lis
       go (inr (inl (long, is))) = refusal_names (format indent) of (minus 32803) (refusal_text TooLong) message sends is
       go (inr (inr (unfit, is))) = refusal_names (format indent) of (minus 32803) (codes "ill-typed") message sends is
 
-  -- The answer to a request about a document in step, from a running session, mentions that document.
+  -- `NamesItsAsk` holds of the answer of a running session to a request about a document in step.
   request_names : (ask : Ask) (of : IsAsk requested k uri ask) (params : Data) (before : ServerState) (text : List ℕ) → IsRunning before → document_at before.held uri ≡ Some (InStep (pos of.sent.version) text) → request_by_method (method_of ask) params ≡ Ok (call_for uri ask)
       → SaysReply (answer_method before (number (unsigned k)) (method_of ask) params).say sent → All (NamesItsAsk requested) sent
   request_names (rename position name) of params before text running holds call saying =
@@ -266,7 +267,7 @@ module _ (requested : List SentAsk) (k : ℕ) (uri : List ℕ) (sent : List (Lis
       let so : answer_method before id (method_of (format indent)) params ≡ answers_about before id (document_at before.held uri) say = ap (answer_request before id) call in
       layout_names indent of before.held.unit text (subst (λ (x : Reaction). SaysReply x.say sent) (so ∙ ap (λ o. answers_about before id o say) holds) saying)
 
--- The replies to each message mention the documents of their asks.
+-- `NamesItsAsk` holds of the replies to each message.
 content_names : (requested : List SentAsk) (m : ToServer) (before after : ServerState) (content : List ℕ) (sent : List (List ℕ)) → IsRunning before → SaysToServer requested m content → Answers before content sent after → AsksHeld requested before.held (m ∷ []) → All (NamesItsAsk requested) sent
 content_names requested (notifies note) before after content sent running is h meets =
     let going : AnswersGoingOn before content sent after = subst (λ phase. AnswersInState phase before content sent after) running.0 h in

@@ -67,8 +67,8 @@ NamesAsked a answer =
     (named_in a.ask answer ≡ Some (a.uri, pos a.version))
     ⊎ ((edits_for a.ask answer ≡ []) ⊎ IsLayout a.ask)
 
--- holds if this content, if it is an answer, answers one of these requests and mentions that
--- request's document
+-- holds if the content has no number as its id, or answers the request with that number as
+-- `NamesAsked` says
 abbrev pub NamesItsAsk : List SentAsk → List ℕ → Type 0
 NamesItsAsk requested content =
     (answer : Data) (k : ℕ)
@@ -76,8 +76,8 @@ NamesItsAsk requested content =
     → option_and_then request_number (get (codes "id") answer) ≡ Some k
     → (a : SentAsk) × (request_numbered requested k ≡ Some a) × NamesAsked a answer
 
--- States that each content that waits for the editor mentions its request's document, whatever
--- happened. (The editor gets only contents that have waited.)
+-- States that `NamesItsAsk` holds of each content that waits for the editor, whatever happened.
+-- (The editor gets only contents that have waited.)
 abbrev pub VersionsAreNamed : Type 0
 VersionsAreNamed =
     (unit : Unit) (begin : Connection) (events : List Event) (now : Connection)

@@ -89,7 +89,7 @@ impl<T: TextStore> Connection<T> {
     pub(crate) fn contents_say_messages(&self)
         ensures { IsTied self.now }
     {
-        // For the proof: what the contract of this call says.
+        // The proof needs the contract of this call.
         let _waiting = self.to_server.len();
     }
 

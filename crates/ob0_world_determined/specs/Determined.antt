@@ -118,7 +118,7 @@ AListFits =
 
 -- States that `serve` writes the frames of a conversation, unless it returns `Memory` or `Write`.
 -- Fed with the frames of the contents that a session took, it writes the frames of the contents
--- that the session sent.
+-- that the session sent. Each content taken has at most `max_content` bytes.
 abbrev pub ConversationIsServed : Type 0
 ConversationIsServed =
     (taken sent : List (List ℕ)) (after : ServerState)
@@ -129,7 +129,8 @@ ConversationIsServed =
     → put ≡ flat_map frame sent
 
 -- States that `serve`, fed with a longer input that begins with these frames, writes the frames of
--- the conversation first. This holds unless it returns `Memory` or `Write`.
+-- the conversation first. This holds unless it returns `Memory` or `Write`. Each content taken has
+-- at most `max_content` bytes.
 abbrev pub ConversationIsServedFirst : Type 0
 ConversationIsServedFirst =
     (taken sent : List (List ℕ)) (after : ServerState)

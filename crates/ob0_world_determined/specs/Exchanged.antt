@@ -17,8 +17,8 @@ use Rattle.ob0_world_determined.specs.Determined.{MayServe, IsWritten}
 -- writes.
 pub record ServedExchange (begin now : Exchange) : Type 0 where
   pub holds : HoldsOfExchange begin now
-  -- Fed with the frames of the taken contents, `serve` writes the frames of the sent contents,
-  -- unless it returns `Memory` or `Write`.
+  -- Fed with the frames of the taken contents, `serve` writes the frames of the sent contents.
+  -- Excepted are the results `Memory` and `Write`, and contents longer than `max_content`.
   pub written : All (λ content. length content ≤ max_content) now.wire.taken
       → (put : List ℕ) (result : Result ℕ ServeFault) → IsWritten result
       → MayServe result (flat_map frame now.wire.taken) put

@@ -70,7 +70,8 @@ pub fn a_list_fits()
 {}
 
 /// Proves that `serve` writes the frames of a conversation, unless it returns `Memory` or `Write`. Fed with the frames
-/// of the contents that a session took, it writes the frames of the contents that the session sent.
+/// of the contents that a session took, it writes the frames of the contents that the session sent. Each content taken
+/// has at most `max_content` bytes.
 pub fn a_conversation_is_served()
     ensures { ConversationIsServed }
 {
@@ -81,7 +82,8 @@ pub fn a_conversation_is_served()
 }
 
 /// Proves that `serve`, fed with a longer input, writes the frames of a conversation first. The input begins with the
-/// frames of the contents that the session took. This holds unless `serve` returns `Memory` or `Write`.
+/// frames of the contents that the session took, each of at most `max_content` bytes. This holds unless `serve` returns
+/// `Memory` or `Write`.
 pub fn a_conversation_is_served_first()
     ensures { ConversationIsServedFirst }
 {
@@ -93,8 +95,8 @@ pub fn a_conversation_is_served_first()
 
 /// Proves the headline for `serve` and every editor that keeps ob0's rules. The guarantees of `HoldsOfExchange` hold.
 /// Fed with the frames of the contents that the session took, `serve` writes the frames of the contents that it sent.
-/// This holds unless `serve` returns `Memory` or `Write`. If it returns `Memory`, it has written the frames of the
-/// replies to the contents that it answered.
+/// This holds unless `serve` returns `Memory` or `Write`, and if no content taken has more than `max_content` bytes. If
+/// it returns `Memory`, it has written the frames of the replies to the contents that it answered.
 pub fn every_exchange_is_served()
     ensures { EveryExchangeIsServed }
 {

@@ -8,9 +8,9 @@ use Rattle.ob0_text.specs.Indents.{level_spaces}
 
 -- a request about a document, whose answer the editor may apply
 pub data Ask : Type 0 where
-  -- renames what is at this position; the bytes are the new name's
+  -- renames the declaration or field named at this position; the bytes are the new name
   rename : Position → List ℕ → Ask
-  -- replaces the use at this position, or all uses, by the constant's value
+  -- replaces the constant's use at this position, or all its uses, by its value
   inline_here : Position → Ask
   inline_all : Position → Ask
   format : Indent → Ask

@@ -71,7 +71,7 @@ as_model w =
 pub data Turn : Type 0 where
   -- the editor makes a move
   editor_does : Move → Turn
-  -- the editor sends a message that isn't about documents or asks
+  -- the editor sends one of the other messages (`None`)
   editor_says : Turn
   -- the server takes one message and sends its replies
   server_takes : Turn
