@@ -19,7 +19,8 @@ use Rattle.ob0_text.proofs.CutOrder.{bytes_further}
 use Rattle.ob0_text.proofs.Pieces.{middle_chars, last_chars}
 use Rattle.ob0_edits_tokens.specs.Replaced.{AreInOrder}
 
--- holds if the cuts follow one another
+-- holds if each cut begins at or after the end of the one before it, and the first one at or after
+-- `at`
 abbrev pub Chain : ℕ → List Cut → Type 0
 Chain at [] = Unit {0}
 Chain at (c ∷ cs) = (at ≤ c.from) × (c.from ≤ c.to) × Chain c.to cs

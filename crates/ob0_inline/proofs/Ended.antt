@@ -44,7 +44,7 @@ use Rattle.ob0_scope_table.proofs.Declared.{module_declared, names_in}
 use Rattle.ob0_inline.proofs.TakenOut.{NoEnd, Taken, gone_module}
 use Rattle.ob0_inline.proofs.WordsLeft.{first_token, is_declaration, last_token, mark_kind, name_is_first}
 
--- the uses, by the table of ordinals
+-- Finds the uses by the table of ordinals.
 
 label_same : (o : Option ℕ) (x : Name) (d : ℕ) → same_label (as_label as_names o x) (declared d) ≡ same_ordinal o d
 label_same None x d = refl
@@ -76,7 +76,7 @@ as_many_bindings r is =
     let m = r.module_read in
     ap length is.occurring ∙ (sym (length-map (label_at m.source r.ordinals) (occurrences (tree_of m))) ∙ ap length (sym (bindings_by_table m r.ordinals is.numbering)))
 
--- the first `;` among tokens
+-- Finds the first `;` among tokens.
 
 not_end : (k : ℕ) (q : TokenKind) (x : Terminal ℕ) (xs : List (Terminal ℕ)) → lexeme_of k q ≡ x → NoEnd (x ∷ xs) → is_semicolon q ≡ false
 not_end k (kind.Symbol s) x xs e n = (subst (λ y. NoEnd (y ∷ xs)) (sym e) n).0

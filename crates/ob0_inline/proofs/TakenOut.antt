@@ -250,7 +250,7 @@ mutual
   path_no_end (more (index e) rest) =
       (refl, no_end_append (spell e ++ (Mark (kind.Symbol symbol.RightBracket) ∷ [])) (spell rest) (no_end_append (spell e) (Mark (kind.Symbol symbol.RightBracket) ∷ []) (expression_no_end e) (refl, tt)) (path_no_end rest))
 
--- a constant that has a value has a declaration
+-- A constant that has a value has a declaration.
 
 pub gone_here : (d k : ℕ) (c : Tree ℕ (item constant)) (cs : Tree ℕ (items constant)) (b : Bool) → (k == d) ≡ b → gone_constants d k (more c cs) ≡ (if b then cs else more c (gone_constants d (suc k) cs))
 gone_here d k c cs b e = ap (λ v. if v then cs else more c (gone_constants d (suc k) cs)) e

@@ -40,7 +40,7 @@ pub record IsUse (m : Parsed) (u : Use) : Type 0 where
   pub bound : binds (named_tree_of m) u.occurrence ≡ Some u.constant
   pub has_value : value_of_constant (named_tree_of m) u.constant ≡ Some (scalar_value u.value)
 
--- returns the ordinals of the predeclared TRUE and FALSE
+-- returns the ordinal of the predeclared TRUE or FALSE
 abbrev pub truth_ordinal : Bool → ℕ
 truth_ordinal true = 2
 truth_ordinal false = 3

@@ -99,7 +99,7 @@ struct ChangedRange {
     added: usize,
 }
 
-/// Scans a changed text again, once next to the old tokens and once in their place. Returns the
+/// Scans a changed text again, once keeping the old tokens and once in their place. Returns the
 /// common outcome.
 fn rescan_both(
     alloc: Global,

@@ -81,7 +81,7 @@ heard_acted requested (m ∷ more) None q says = absurd says
 heard_acted requested (m ∷ more) (Some c) q says =
     said_push (heard requested) q c m (says_heard requested m c.items says.0) ∙ ap (λ ms. all_heard requested q ++ m ∷ ms) (sym says.1)
 
--- The state after an act is the model's state after it.
+-- After an act of the code, the stored state is the model's state after that act.
 pub acted : (e new : Editor) (done : Done) (content : Option (Vec ℕ Global)) (q q' r : Contents) (s : ServerState) (ap_list ap_new : List applied.Applied) (md : List made.Made) → Grows e done.editor → Acts done content new → q' ≡ q ++ option_to_list content
     → map applied_of ap_new ≡ map applied_of ap_list ++ done.applied → Sound e.requested q r s → model_from new q' s r ap_new md ≡ after_act (model_from e q s r ap_list md) done
 acted e new done content q q' r s ap_list ap_new md grows acts is more sound =

@@ -28,8 +28,8 @@ request_number (string s) = None
 request_number (array ds) = None
 request_number (object ms) = None
 
--- Returns the message to the server that a notification means. None for `exit`, and for one that
--- the server ignores.
+-- Returns the message to the server that a notification means. None for `exit`, for an unreadable
+-- one without a uri, and for one that the server ignores.
 abbrev pub notification_read : Notification → Option ToServer
 notification_read exits = None
 notification_read (opens uri version text) = Some (notifies (Opened uri version text))

@@ -67,8 +67,8 @@ message_made held (requests number uri ask) said made now (edits, answer, is_sai
 
 -- ---- the server's turn
 
--- States that after the event the documents announced so far, with those announced now, are those published for, then
--- those that wait.
+-- States that after an event, which announces the documents `now`, all announced documents are the ones with
+-- publications, then the waiting ones.
 pub record Next (announced waiting now : List Announced) (new : ClientAndServer) : Type 0 where
   pub done : List Announced
   pub awaits : List Announced
