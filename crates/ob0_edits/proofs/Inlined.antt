@@ -1,4 +1,4 @@
--- The edits that inline a constant leave a text whose module has the same runs.
+-- Proves that the edits that inline a constant leave a text whose module has the same runs.
 use Rattle.std.proofs.Common.{◌≡◌, ℕ, List, Option, Some, None, Result, Vec, Global, inl, inr, refl, subst}
 use Rattle.std.specs.Str.{chars, IsUtf8}
 use Rattle.ob0_inline.specs.Everywhere.{inlined_all}
@@ -34,7 +34,7 @@ offered_of how unit text m offset answer None h (refusal, other, is) = (refusal,
 pub read_as : (text : List ℕ) (names : Resolution) → IsModuleIn text names → IsReadAs text names.module_read
 read_as text names h = record { scan = h.scan; parsed = h.well_typed.resolved.parsed; well_typed = h.well_typed.well_typed }
 
--- edits that leave the text of a module with the same runs
+-- Edits that leave the text of a module with the same runs inline the constant.
 kept : (how : Inlining) (unit : Unit) (text : List ℕ) (offset : ℕ) (edits : Vec Edit Global) (names : Resolution) (t : Tree Name module_text) → IsModuleIn (utf8 text) names
     → LeavesModule unit text edits.items t → WellTyped t → SameRuns t (named_tree_of names.module_read) → Inlines how unit text names.module_read offset (Some edits) → InlinesIn how unit text offset edits
 kept how unit text offset edits names t h leaves well same inlines =

@@ -1,4 +1,4 @@
--- The edits that format a text leave the same module.
+-- Proves that the edits that format a text leave the same module.
 use Rattle.std.proofs.Common.{◌≡◌, ◌≤◌, ◌<◌, ◌⊎◌, ◌∙◌, ℕ, List, Option, Some, None, Result, Ok, Err, IfOk, IfErr, IsErrOf, Vec, Global, map, length, inl, inr, refl, sym, ap, subst}
 use Rattle.std.specs.Str.{chars, IsUtf8}
 use Rattle.std.proofs.lemmas.Str.{encodes-chars}
@@ -29,7 +29,7 @@ ModuleStays =
     (indent : Indent) (s : Scanned) (scan : IsScan s) (tree : Tree (List ℕ) module_text) → ModuleOf s tree
     → (t : Scanned) → IsScan t → t.text ≡ layout indent tree scan.lexemes → ModuleOf t tree
 
--- if the formatted text isn't too long, it is a text of the same module
+-- If the formatted text isn't too long, it is a text of the same module.
 stays_module : (indent : Indent) (text : List ℕ) (m : IsWellTypedModule text) → IsUtf8 (layout_of indent m) → Lexed (layout_of indent m) (laid_out indent m.tree m.text_of.scan.scan.lexemes)
     → length (layout_of indent m) ≤ max_text → ModuleStays → IsTextOf m.tree (utf8 (chars (layout_of indent m)))
 stays_module indent text m u lexed short law =
@@ -55,7 +55,7 @@ lays_out unit indent text edits m changes made short u lexed law =
       runs = record { old = m; new = record { tree = m.tree; text_of = stays; well_typed = m.well_typed }; same = λ input c t. refl };
     }
 
--- states the contract of the function that makes the edits, for a module that was read
+-- holds if the contract of `format` holds of these edits, for a module that was read
 abbrev pub Made : Unit → Indent → List ℕ → List Edit → Parsed → Type 0
 Made unit indent text edits m =
     ((scan : IsScan m.source) → map edit_text edits ≡ map (edit_of (width_of unit) text) (changed_gaps m.source.text (all_gaps indent m.source.text (line_roles 0 (named_tree_of m)) scan.lexemes)))
@@ -74,7 +74,7 @@ formats unit indent text edits names m is h same made u lexed law =
     let source = names.module_read.source in
     lays_out unit indent text edits w (is_made.0 scan) (is_made.2 scan same) (is_made.1 scan) (u indent source scan w.tree) (lexed indent source scan w.tree w.text_of.module_of) law
 
--- the refusal, if no allocation failed
+-- If no allocation failed, the only refusal is that the formatted text is too long.
 pub too_long : (indent : Indent) (text : List ℕ) (names : Resolution) (m : Parsed) (refusal : EditRefusal) → m ≡ names.module_read → IsModuleIn (utf8 text) names
     → ((scan : IsScan m.source) → refusal ≡ TooLong → max_text < length (layout indent (named_tree_of m) scan.lexemes))
     → (refusal ≡ TooLong) ⊎ (refusal ≡ Memory) → (refusal ≡ Memory → ⊥) → (refusal ≡ TooLong) × IsTooLongLaidOut indent text
@@ -83,8 +83,7 @@ too_long indent text names m refusal is h long (inl longer) other =
     let P : Parsed → Type 0 = λ p. (scan : IsScan p.source) → refusal ≡ TooLong → max_text < length (layout indent (named_tree_of p) scan.lexemes) in
     (longer, record { before = is_module (utf8 text) names h; long = subst P is long h.scan.scan longer })
 
--- edits or a refusal, if no allocation failed, from the contract of the function that makes the
--- edits
+-- If no allocation failed, the result is edits or the refusal, by the contract of `format`.
 pub formats_or_not : (unit : Unit) (indent : Indent) (text : List ℕ) (names : Resolution) (m : Parsed) (r : Result (Vec Edit Global) EditRefusal) → m ≡ names.module_read
     → IsModuleIn (utf8 text) names → text ≡ chars names.module_read.source.text
     → ((scan : IsScan m.source) → IfOk r (λ edits. map edit_text edits.items ≡ map (edit_of (width_of unit) text) (changed_gaps m.source.text (all_gaps indent m.source.text (line_roles 0 (named_tree_of m)) scan.lexemes))))
@@ -100,7 +99,7 @@ formats_or_not unit indent text names m (Ok edits) is h same changes short made 
 formats_or_not unit indent text names m (Err refusal) is h same changes short made long refusals other u lexed law =
     too_long indent text names m refusal is h (λ scan e. long scan (ap Err e)) refusals other
 
--- the result of formatting a text
+-- The result of asking for the formatting is the result of formatting the text.
 pub layout_found : (unit : Unit) (indent : Indent) (bytes text : List ℕ) (found : Option (Result (Vec Edit Global) EditRefusal)) → IsUtf8 bytes → chars bytes ≡ text
     → Finds bytes (λ names outcome. IsModuleIn (utf8 text) names → text ≡ chars names.module_read.source.text → Formats unit indent text outcome) found
     → FindsLayout unit indent text found

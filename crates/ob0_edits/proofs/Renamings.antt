@@ -1,4 +1,4 @@
--- The edits of a renaming leave a text whose module has the same runs.
+-- Proves that the edits of a renaming leave a text whose module has the same runs.
 use Rattle.std.proofs.Common.{◌≡◌, ◌⊎◌, ℕ, List, Option, Some, None, Result, Ok, Err, IfErr, Vec, Global, inl, inr, refl, subst, sym}
 use Rattle.std.specs.Str.{chars, IsUtf8}
 use Rattle.ob0_language_fields.specs.Renaming.{field_renamed}
@@ -20,17 +20,17 @@ use Rattle.ob0_analysis.specs.Texts.{utf8}
 use Rattle.ob0_edits.specs.Renamings.{FindsNewName, RenamesIn, Settles}
 use Rattle.ob0_analysis.proofs.Scanning.{is_module, utf8_of}
 
--- a refusal that isn't a failed allocation
+-- A refusal that isn't a failed allocation is a reason not to rename.
 not_memory : (r : Renaming) (refusal : EditRefusal) → (refusal ≡ Memory) ⊎ IsRefused r refusal → (refusal ≡ Memory → ⊥) → IsRefused r refusal
 not_memory r refusal (inl wants) other = absurd (other wants)
 not_memory r refusal (inr h) other = h
 
--- edits or a refusal, if no allocation failed
+-- If no allocation failed, the result is edits or the refusal.
 pub settled : (r : Renaming) (answer kept : Result (Vec Edit Global) EditRefusal) → RenameAnswers r answer → kept ≡ answer → IfErr kept (λ refusal. refusal ≡ Memory → ⊥) → Settles r kept
 settled r answer (Ok edits) h is other = subst (λ (a : Result (Vec Edit Global) EditRefusal). RenameAnswers r a) (sym is) h
 settled r answer (Err refusal) h is other = not_memory r refusal (subst (λ (a : Result (Vec Edit Global) EditRefusal). RenameAnswers r a) (sym is) h) other
 
--- if edits leave a text of a well-typed tree with the same runs, the text has the same runs
+-- If edits leave a text of a well-typed tree with the same runs, they rename in the text.
 renames_in : (unit : Unit) (text : List ℕ) (place : Position) (new : List ℕ) (edits : List Edit) (names : Resolution) → IsModuleIn (utf8 text) names
     → AreEdits (renaming_of unit text names place new) edits → (tokens : List ℕ) (tree : Tree Name module_text) → WritesName (renaming_of unit text names place new) tokens tree edits
     → RenamesIn unit text place new edits

@@ -1,4 +1,4 @@
--- The edits that inline a constant, at one use or everywhere, and the text that they leave.
+-- Defines the edits that inline a constant, at one use or everywhere, and the text that they leave.
 -- Rule: docs/PROTOCOL.md, Requests on documents 7, 9, 10.
 use Rattle.std.specs.Prelude.{◌≡◌, ℕ, List, Option, Some, None, Result, Ok, Err, Vec}
 use Rattle.std.specs.declared.alloc.Global.{Global}
@@ -19,7 +19,7 @@ use Rattle.ob0_edits.specs.declared.inlining.Inlining.{Inlining}
 use Rattle.ob0_edits.specs.declared.inlining.Inlining.TheVariants.{Here, Everywhere}
 use Rattle.ob0_edits.specs.declared.inlining.Inlinings as found_inlinings
 
--- states that an inliner's answer is right at a byte offset of a module
+-- holds if this is an inliner's right answer at a byte offset of a module
 abbrev pub AnswersInlining : Inlining
     → Unit
     → List ℕ
@@ -30,7 +30,8 @@ abbrev pub AnswersInlining : Inlining
 AnswersInlining Here unit text m offset answer = AnswersHere unit text m offset answer
 AnswersInlining Everywhere unit text m offset answer = AnswersEverywhere unit text m offset answer
 
--- states the edits of an inlining, or None if it is refused; a failed allocation isn't a refusal
+-- Holds if these are the edits of an inlining, or None and the inlining is refused. A failed
+-- allocation isn't a refusal.
 abbrev pub Inlines : Inlining → Unit → List ℕ → Parsed → ℕ → Option (Vec Edit Global) → Type 0
 Inlines how unit text m offset (Some edits) = AnswersInlining how unit text m offset (Ok edits)
 Inlines how unit text m offset None =
@@ -38,7 +39,7 @@ Inlines how unit text m offset None =
     × ¬ (refusal ≡ Memory)
     × AnswersInlining how unit text m offset (Err refusal)
 
--- States that these edits inline a constant. Applied at once, they leave a text whose module has
+-- States that these edits inline a constant. Made all at once, they leave a text whose module has
 -- the same runs.
 pub record InlinesIn (how : Inlining) (unit : Unit) (text : List ℕ) (offset : ℕ)
     (edits : Vec Edit Global) : Type 0 where
@@ -57,17 +58,18 @@ pub record IsNotInlinedIn (how : Inlining) (unit : Unit) (text : List ℕ) (offs
 
 -- ---- the result for a text
 
--- states what an inliner's answer offers: its edits, or None if it is refused
+-- holds if these are the edits of an inliner's answer, or None and the answer is a refusal
 abbrev pub IsOffered : Result (Vec Edit Global) EditRefusal → Option (Vec Edit Global) → Type 0
 IsOffered answer (Some edits) = answer ≡ Ok edits
 IsOffered answer None = (refusal : EditRefusal) × ¬ (refusal ≡ Memory) × (answer ≡ Err refusal)
 
--- states that edits are offered exactly if the inlining isn't refused
+-- holds if these edits inline the constant, or None and the inlining is refused
 abbrev pub Offers : Inlining → Unit → List ℕ → ℕ → Option (Vec Edit Global) → Type 0
 Offers how unit text offset (Some edits) = InlinesIn how unit text offset edits
 Offers how unit text offset None = IsNotInlinedIn how unit text offset
 
--- states the offered edits at a place of a text, or None if the text isn't a well-typed module
+-- Holds if these are the offered edits at a byte offset of a text. None means that the text isn't a
+-- well-typed module.
 abbrev pub FindsInlinings : Unit → List ℕ → ℕ → Option found_inlinings.Inlinings → Type 0
 FindsInlinings unit text offset (Some found) =
     Offers Here unit text offset found.here × Offers Everywhere unit text offset found.everywhere

@@ -1,4 +1,4 @@
--- The edits that format a text, and the text that they leave.
+-- Defines the edits that format a text, and the text that they leave.
 -- Rule: docs/PROTOCOL.md, Requests on documents 8, 10.
 use Rattle.std.specs.Prelude.{◌≡◌, ◌<◌, ℕ, List, Option, Some, None, Result, Ok, Err, Vec, map, length}
 use Rattle.std.specs.declared.alloc.Global.{Global}
@@ -17,11 +17,11 @@ use Rattle.ob0_analysis.specs.Diagnosed.{IsTextOf, IsWellTypedModule}
 use Rattle.ob0_analysis.specs.Texts.{utf8}
 use Rattle.ob0_analysis.specs.RunsKept.{RunsAsBefore}
 
--- the formatted text of a module
+-- returns the formatted text of a module, in bytes
 abbrev pub layout_of : {text : List ℕ} → Indent → IsWellTypedModule text → List ℕ
 layout_of indent m = layout indent m.tree m.text_of.scan.scan.lexemes
 
--- the range and new text of each gap that changes, with positions in this unit
+-- returns the range and new text of each gap that changes, with positions in this unit
 abbrev pub layout_changes : {text : List ℕ}
     → Unit
     → Indent
@@ -34,8 +34,8 @@ layout_changes unit indent characters m =
     (all_gaps indent source.text (line_roles 0 m.tree) m.text_of.scan.scan.lexemes))
 
 -- States that these edits format a text: there is one for each gap that changes, and it replaces
--- the gap. Applied at once, they leave the formatted text. It has the same module, with the same
--- runs.
+-- the whole gap. Made all at once, they leave the formatted text. Its module is the same, with the
+-- same runs.
 pub record LaysOut (unit : Unit) (indent : Indent) (text : List ℕ)
     (edits : List Edit) : Type 0 where
   pub before : IsWellTypedModule (utf8 text)
@@ -51,13 +51,14 @@ pub record IsTooLongLaidOut (indent : Indent) (text : List ℕ) : Type 0 where
   pub before : IsWellTypedModule (utf8 text)
   pub long : max_text < length (layout_of indent before)
 
--- states the result of formatting a module: edits, or the only possible refusal
+-- holds if this is the result of formatting a module: edits, or the only possible refusal,
+-- `TooLong`
 abbrev pub Formats : Unit → Indent → List ℕ → Result (Vec Edit Global) EditRefusal → Type 0
 Formats unit indent text (Ok edits) = LaysOut unit indent text edits.items
 Formats unit indent text (Err refusal) = (refusal ≡ TooLong) × IsTooLongLaidOut indent text
 
--- states the result of formatting a text: edits, the only possible refusal, or None if the text
--- isn't a well-typed module
+-- Holds if this is the result of formatting a text: edits, or the only possible refusal, `TooLong`.
+-- None means that the text isn't a well-typed module.
 abbrev pub FindsLayout : Unit
     → Indent
     → List ℕ

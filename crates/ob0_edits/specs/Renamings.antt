@@ -1,4 +1,4 @@
--- Renaming in a text: the edits, or the refusal.
+-- Defines the renaming in a text: the edits, or the refusal.
 -- Rule: docs/PROTOCOL.md, Requests on documents 2, 6.
 use Rattle.std.specs.Prelude.{◌≡◌, ℕ, List, Option, Some, None, Result, Ok, Err, Vec}
 use Rattle.std.specs.declared.alloc.Global.{Global}
@@ -16,12 +16,12 @@ use Rattle.ob0_analysis.specs.Texts.{utf8}
 use Rattle.ob0_rename.specs.Answers.{AreEdits, IsRefused}
 use Rattle.ob0_rename.specs.Renaming.{Renaming, renaming_of}
 
--- states the result for a module: edits, or the refusal
+-- holds if this is the result for a module: edits, or the refusal
 abbrev pub Settles : Renaming → Result (Vec Edit Global) EditRefusal → Type 0
 Settles r (Ok edits) = AreEdits r edits.items
 Settles r (Err refusal) = IsRefused r refusal
 
--- States that these edits write the new name. Applied at once, they leave a text of the renamed
+-- States that these edits write the new name. Made all at once, they leave a text of the renamed
 -- module, which has the same runs.
 pub record RenamesIn (unit : Unit) (text : List ℕ) (place : Position) (new : List ℕ)
     (edits : List Edit) : Type 0 where
@@ -39,7 +39,8 @@ pub record IsRefusedIn (unit : Unit) (text : List ℕ) (place : Position) (new :
   pub read : IsModuleIn (utf8 text) names
   pub refused : IsRefused (renaming_of unit text names place new) refusal
 
--- states the result for a text: edits, the refusal, or None if the text isn't a well-typed module
+-- Holds if this is the result for a text: edits, or the refusal. None means that the text isn't a
+-- well-typed module.
 abbrev pub FindsNewName : Unit
     → List ℕ
     → Position

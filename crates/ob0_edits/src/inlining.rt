@@ -1,8 +1,8 @@
-//! Inlining a constant in a text, using the text's analysis.
+//! Inlines a constant in a text, using the text's analysis.
 //!
 //! One question (`InlinedAt`) makes both lists of edits. `offered_edits` separates a failed
-//! allocation from the refusals. A further inlining needs a variant of `Inlining`, a line in
-//! `AnswersInlining`, a field in `Inlinings`, and its case in `inlines_in` of `proofs/Inlined`.
+//! allocation from the refusals. A new kind of inlining needs a variant of `Inlining`, a line in
+//! `AnswersInlining`, a field in `Inlinings`, and a case in `inlines_in` of `proofs/Inlined`.
 
 ghost use Rattle.std.specs.Prelude.{◌≡◌, IfOk};
 ghost use Rattle.std.specs.Str.{chars};
@@ -17,21 +17,22 @@ use ob0_inline::{inline_all, inline_here};
 use ob0_text::{Edit, EditRefusal, Position, TextStore};
 use std::alloc::{AllocError, Global};
 
-/// The extent of an inlining: one use, or all uses, in which case the declaration is removed.
+/// The extent of an inlining: one use, or all uses. If all uses are inlined, the declaration is
+/// removed.
 #[derive(Clone, Copy, Debug, Drop, PartialEq, Eq)]
 pub enum Inlining {
     Here,
     Everywhere,
 }
 
-/// The edits of each inlining that isn't refused.
+/// The edits of each kind of inlining; None if that kind is refused.
 #[derive(Drop)]
 pub struct Inlinings {
     pub here: Option<Vec<Edit>>,
     pub everywhere: Option<Vec<Edit>>,
 }
 
-/// Asks which inlinings are possible at a place of a store's text.
+/// The question which inlinings are possible at a place of a store's text.
 #[derive(Drop)]
 struct InlinedAt<'a, T: TextStore> {
     store: &'a T,
@@ -58,8 +59,8 @@ impl<'a, T: TextStore> Question for InlinedAt<'a, T> {
     }
 }
 
-/// Returns the edits of an inliner, or None if they are refused. A failed allocation is returned as
-/// an error.
+/// Returns the edits of an inliner's answer, or None if it is a refusal. A failed allocation is
+/// returned as an error.
 fn offered_edits(answer: Result<Vec<Edit>, EditRefusal>) -> Result<Option<Vec<Edit>>, AllocError>
     ensures { IfOk result (λ edits. IsOffered answer edits) }
 {
@@ -70,9 +71,9 @@ fn offered_edits(answer: Result<Vec<Edit>, EditRefusal>) -> Result<Option<Vec<Ed
     }
 }
 
-/// Returns the edits of each inlining that isn't refused, at a place of a store's text. Returns
-/// None if the text isn't a well-typed module. A failed allocation is never a refusal: it is
-/// returned as an error.
+/// Returns the edits of each kind of inlining that isn't refused, at a place of a store's text.
+/// None if the text isn't a well-typed module. If an allocation fails, that is an error and never
+/// counts as a refusal.
 pub fn inline_in<T: TextStore>(
     alloc: Global,
     store: &T,

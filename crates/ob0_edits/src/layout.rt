@@ -1,4 +1,4 @@
-//! Formatting a text, using its analysis.
+//! Formats a text, using its analysis.
 
 ghost use Rattle.std.specs.Prelude.{◌≡◌, IfOk};
 ghost use Rattle.std.specs.Str.{chars};
@@ -13,7 +13,7 @@ use ob0_layout::laws::{gaps_make_the_layout, lexemes_stay, module_stays};
 use ob0_text::{Edit, EditRefusal, Indent, TextStore};
 use std::alloc::{AllocError, Global};
 
-/// Asks for the edits that format a store's text.
+/// The question which edits format a store's text.
 #[derive(Drop)]
 struct Formatting<'a, T: TextStore> {
     store: &'a T,
@@ -40,8 +40,8 @@ impl<'a, T: TextStore> Question for Formatting<'a, T> {
     }
 }
 
-/// Returns the edits that format a store's text, or the refusal. Returns None if the text isn't a
-/// well-typed module. A failed allocation is never a refusal: it is returned as an error.
+/// Returns the edits that format a store's text, or the refusal. None if the text isn't a
+/// well-typed module. If an allocation fails, that is an error and never counts as a refusal.
 pub fn layout_in<T: TextStore>(
     alloc: Global,
     store: &T,

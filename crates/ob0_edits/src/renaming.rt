@@ -1,10 +1,10 @@
-//! Renaming in a text, using its analysis.
+//! Renames in a text, using its analysis.
 //!
 //! Declarations and fields are two cases of `AreEdits` and `IsRefused` of `ob0_rename`. Both cases
 //! contain `WritesName`, so one lemma, `renames_in` of `proofs/Renamings`, covers both. `RenamesIn`
 //! and `IsRefusedIn` are about the module with its names bound (`IsModuleIn`), because fields are
-//! found through the bindings of names. `new_name_found` derives `RenamesIn`, which is about
-//! characters, from the contract of `ask`, which is about bytes.
+//! found through the bindings of names. The contract of `ask` is about bytes, and `RenamesIn` about
+//! characters. `new_name_found` derives the second from the first.
 
 ghost use Rattle.std.specs.Prelude.{◌≡◌, IfOk};
 ghost use Rattle.std.specs.Str.{chars};
@@ -17,7 +17,7 @@ use ob0_rename::rename;
 use ob0_text::{Edit, EditRefusal, Position, TextStore};
 use std::alloc::{AllocError, Global};
 
-/// Asks for the edits that rename the declaration or field at a place of a store's text.
+/// The question which edits rename the declaration or field at a place of a store's text.
 #[derive(Drop)]
 struct NewName<'a, T: TextStore> {
     store: &'a T,
@@ -43,8 +43,8 @@ impl<'a, T: TextStore> Question for NewName<'a, T> {
 }
 
 /// Returns the edits that rename the declaration or field at a place of a store's text to `new`, or
-/// the refusal. Returns None if the text isn't a well-typed module. A failed allocation is never a
-/// refusal: it is returned as an error.
+/// the refusal. None if the text isn't a well-typed module. If an allocation fails, that is an
+/// error and never counts as a refusal.
 pub fn rename_in<T: TextStore>(
     alloc: Global,
     store: &T,

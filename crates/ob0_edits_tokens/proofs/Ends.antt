@@ -1,5 +1,5 @@
--- The bytes that continue a lexeme: all letters are alike, and a lexeme that ends before a byte
--- ends before lexemes that begin with it.
+-- Proves which bytes continue a lexeme: all letters are alike, and a lexeme that ends before a byte
+-- ends before lexemes that begin with that byte.
 use Rattle.std.proofs.Common.{◌≡◌, ℕ, List, [], ◌∷◌, ◌++◌, get_or, refl, sym, ap, ◌∙◌, subst, append_assoc}
 use Rattle.ob0_scan.specs.Lexed.{Lexeme, joined}
 use Rattle.ob0_scan.specs.Ends.{EndsBefore, AreApart}
@@ -9,7 +9,7 @@ pub joined-append : (xs ys : List Lexeme) → joined (xs ++ ys) ≡ joined xs ++
 joined-append [] ys = refl
 joined-append (x ∷ xs) ys = ap (λ t. x.text ++ t) (joined-append xs ys) ∙ sym (append_assoc x.text (joined xs) (joined ys))
 
--- only the first byte after a lexeme matters
+-- Only the first byte after a lexeme matters.
 pub first_alone : (xs ys : List ℕ) → get_or (xs ++ (get_or ys 0 0 ∷ [])) 0 0 ≡ get_or (xs ++ ys) 0 0
 first_alone [] [] = refl
 first_alone _ _ = refl

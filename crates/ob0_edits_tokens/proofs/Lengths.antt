@@ -1,4 +1,4 @@
--- The length of a text in which identifiers are replaced by another text.
+-- Proves the length of a text in which identifiers are replaced by another text.
 use Rattle.std.proofs.Common.{◌≡◌, ℕ, suc, ◌+◌, ◌-◌, ◌<◌, ◌≤◌, true, List, [], ◌∷◌, ◌++◌, length, get_or, take, drop, map, refl, sym, ap, ◌∙◌, subst, arith, length-append, length-drop}
 use Rattle.std.specs.Prelude.{codes}
 use Rattle.std.specs.Char.{is_ascii_alphanumeric}
@@ -29,7 +29,7 @@ some_name = record { word = record { letter = refl; all = each }; free = not_res
         let first : k ≡ 0 = omega (arith, h) in
         ap (λ i. is_ascii_alphanumeric (get_or (codes "x") i d)) first
 
--- the places of the cuts don't depend on the new text
+-- The places of the cuts don't depend on the new text.
 same_chain : (tokens : List Token) (a b : List ℕ) (at : ℕ) (places : List ℕ) → Chain at (map (cut_of tokens a) places) → Chain at (map (cut_of tokens b) places)
 same_chain tokens a b at [] h = tt
 same_chain tokens a b at (p ∷ ps) h = (h.0, h.1, same_chain tokens a b (span_at tokens p).end ps h.2)
@@ -50,7 +50,7 @@ pub last_length : (text : List ℕ) (end : ℕ) → length (pieced text end []) 
 unfolding pieced
 last_length text end = length-drop end text
 
--- states that the new text is counted up to here, and the rest of the old text begins at `end`
+-- states that the new text is counted up to here, and that the rest of the old text begins at `end`
 pub record Counted (s : Scanned) (new places : List ℕ) (total count end i : ℕ) : Type 0 where
   pub scan : IsScan s
   pub sum : count + length (pieced s.text end (map (cut_of s.tokens new) (drop i places))) ≡ total
@@ -122,7 +122,7 @@ module _ (s : Scanned) (new places : List ℕ) (total count end i : ℕ) (c : Co
   counted_all done =
       ap (λ n. count + n) (sym (last_length s.text end)) ∙ ap (λ ps. count + length (pieced s.text end (map (cut_of s.tokens new) ps))) (sym (drop_all i places done)) ∙ c.sum
 
--- the removal of a declaration and the cuts after it follow one another
+-- The removal of a declaration and the cuts after it follow one another.
 pub chain_without : (s : Scanned) (scan : IsScan s) (new places : List ℕ) (first last : ℕ) → IsDeclaration s.tokens first last → AreNames s.tokens (suc last) places → Chain 0 (removal s.tokens first last ∷ map (cut_of s.tokens new) places)
 chain_without s scan new places first last decl names =
     let apart = (lexed_by_next_bytes s.text scan.lexemes).0 scan.lexed in

@@ -1,4 +1,4 @@
--- A text in which identifiers are replaced is scanned, and has the expected words.
+-- Proves that a text in which identifiers are replaced is scanned, and has the expected words.
 use Rattle.std.proofs.Common.{◌≡◌, ℕ, suc, ◌≤◌, List, [], ◌∷◌, length, get_or, drop, map, refl, sym, ap, ap₂, ◌∙◌}
 use Rattle.std.specs.Prelude.{Some}
 use Rattle.std.specs.Str.{IsCharBoundary, IsUtf8, chars}
@@ -17,11 +17,11 @@ use Rattle.ob0_edits_tokens.specs.Ranges.{range_of}
 use Rattle.ob0_edits_tokens.proofs.Swaps.{Chain, AllClear, HasClearEnds, Swapped, swapped}
 use Rattle.ob0_edits_tokens.proofs.TextCuts.{AreSame, IsBorder, chained, same_cut, patched_by_same}
 
--- the scan that consists of these lexemes
+-- returns the scan that consists of these lexemes
 abbrev pub scan_of : List ℕ → List Lexeme → Scanned
 scan_of text ls = record { text = text; tokens = tokens_from 0 ls; comments = comments_from 0 ls }
 
--- a removed part begins and ends at a border
+-- A removed part begins at a border.
 pub first_border : (text : List ℕ) (c : Cut) → IsCharBoundary text c.from → HasClearEnds text c → IsBorder text c.from
 first_border text c place clear = record { place = place; clear = λ ending. clear.first ending.lf }
 
@@ -34,7 +34,7 @@ module _ (unit : counting.Unit) (s : Scanned) (scan : IsScan s) (new : List ℕ)
       let apart = (lexed_by_next_bytes s.text scan.lexemes).0 scan.lexed in
       swapped s.text s.tokens new ws replaces 0 0 scan.lexemes places [] scan.tokens refl (sym apart.0) apart.1 names
 
-  -- the cut at a place, in characters
+  -- returns the cut at a place, in characters
   abbrev pub char_cut : ℕ → Cut
   char_cut p = cut_at (width_of unit) (chars s.text) (range_of (width_of unit) (chars s.text) (span_at s.tokens p)) (chars new)
 

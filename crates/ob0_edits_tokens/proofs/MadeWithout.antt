@@ -1,5 +1,5 @@
--- A text without a declaration, in which identifiers after it are replaced, is scanned and has the
--- expected words.
+-- Proves that a text without a declaration, in which identifiers after it are replaced, is scanned
+-- and has the expected words.
 use Rattle.std.proofs.Common.{◌≡◌, ℕ, suc, ◌≤◌, List, [], ◌∷◌, length, get_or, drop, map, refl, sym, ap, ap₂, ◌∙◌, arith}
 use Rattle.std.specs.Prelude.{Some}
 use Rattle.std.specs.Str.{IsUtf8, chars}

@@ -1,4 +1,4 @@
--- White space next to white space is one lexeme.
+-- Proves that white space next to white space is one lexeme.
 use Rattle.std.proofs.Common.{◌≡◌, true, false, ◌⊎◌, inl, inr, List, [], ◌∷◌, ◌++◌, get_or, refl, sym, ap, ap₂, ◌∙◌, subst, arith, append_assoc, length-append}
 use Rattle.std.proofs.lemmas.List.Elements.{All-append}
 use Rattle.ob0_scan.specs.declared.lexeme.TokenKind.TheVariants as token
@@ -21,21 +21,21 @@ blank_kind lexeme.Space e = refl
 blank_kind (lexeme.Token token.Identifier) e = cc
 blank_kind _ e = cc
 
--- lexemes whose first byte is white space begin with a white-space lexeme
+-- Lexemes whose first byte is white space begin with a white-space lexeme.
 pub begins_with_space : (ns : List Lexeme) → AreApart ns → is_space (get_or (joined ns) 0 0) ≡ true → BeginsWithSpace ns
 begins_with_space [] apart h = absurd (cc)
 begins_with_space (m ∷ ms) apart h =
     let first = first_of m.text (joined ms) (nonempty m.kind m.text apart.0.belongs) in
     blank_kind m.kind (sym (head_family m.kind m.text apart.0.belongs) ∙ family-blank (get_or m.text 0 0) (ap is_space (sym first) ∙ h))
 
--- a lexeme in front of others; if it and the first of them are white space, the two are merged
+-- states that a lexeme in front of others is merged with the first of them if both are white space
 pub record Merged (l : Lexeme) (ns : List Lexeme) : Type 0 where
   pub lexemes : List Lexeme
   pub apart : AreApart lexemes
   pub read : words lexemes ≡ word_of l l.kind ++ words ns
   pub whole : joined lexemes ≡ l.text ++ joined ns
 
--- states that a lexeme ends before others, or that it and the first of them are white space
+-- holds if a lexeme ends before others, or if it and the first of them are white space
 abbrev pub MeetsLoosely : LexemeKind → List Lexeme → Type 0
 MeetsLoosely kind ns = (continues kind (get_or (joined ns) 0 0) ≡ false) ⊎ ((kind ≡ lexeme.Space) × BeginsWithSpace ns)
 

@@ -1,5 +1,5 @@
--- The words of a text with some of them changed are the tokens of its tree with names changed. If
--- names are replaced only by names, the changed tree spells them.
+-- Proves that the words of a text with some of them changed are the tokens of its tree with names
+-- changed. If names are replaced only by names, the changed tree spells them.
 use Rattle.std.proofs.Common.{◌≡◌, ℕ, zero, suc, ◌==◌, Bool, true, false, ◌||◌, List, [], ◌∷◌, ◌++◌, length, map, refl, sym, ap, ap₂, ◌∙◌, arith, length-append, append_assoc, eqb-true, Some, None, append-nil}
 use Rattle.std.specs.Prelude.{if◌then◌else◌}
 use Rattle.std.proofs.Math.Seq.{get_or-append_seam}
@@ -20,7 +20,7 @@ use Rattle.ob0_edits_tokens.specs.Replaced.{AreNames}
 use Rattle.ob0_edits_tokens.specs.Written.{name_word}
 use Rattle.ob0_edits_tokens.specs.OfTrees.{numbered_tokens, word_at, text_of_word, number_at, renamed_at, RenamedWordsSpell}
 
--- a property of each word with its index also holds for words between others
+-- A property of each word with its index also holds of words between others.
 module _ (all : List Word) (ch : Changes) (f : Terminal ℕ → List (Terminal (List ℕ))) (each : (j : ℕ) → f (lexeme_of j (word_at all j).kind) ≡ map word_lexeme (or_itself (word_at all j) (ch j))) where
   pub of_each : (k : ℕ) (done ws rest : List Word) → all ≡ done ++ (ws ++ rest) → length done ≡ k → flat_map f (numbered_tokens k ws) ≡ map word_lexeme (changed_words ch k ws)
   of_each k done [] rest e count = refl
@@ -35,7 +35,7 @@ module _ (all : List Word) (ch : Changes) (f : Terminal ℕ → List (Terminal (
   pub of_all : flat_map f (numbered_tokens 0 all) ≡ map word_lexeme (changed_words ch 0 all)
   of_all = of_each 0 [] all [] (sym (append-nil all)) refl
 
--- the tokens at the places are identifiers
+-- The tokens at the places are identifiers.
 names_at : (tokens : List Token) (least : ℕ) (places : List ℕ) (k : ℕ) → AreNames tokens least places → is_among k places ≡ true → (place.token_or_empty tokens k).kind ≡ token.Identifier
 names_at tokens least [] k names e = absurd (cc)
 names_at tokens least (p ∷ ps) k names e = by_test (k == p) refl e (names_at tokens (suc p) ps k names.3)
@@ -52,14 +52,15 @@ word_kind s k = of_list s.tokens k
     of_list (t ∷ ts) zero = refl
     of_list (t ∷ ts) (suc k) = of_list ts k
 
--- the tokens that replace a token of the tree: other tokens if it is a name that is replaced
+-- returns the tokens that replace a token of the tree: other tokens if it is a name that is
+-- replaced
 abbrev pub replaced : (ℕ → Bool) → List (Terminal (List ℕ)) → (ℕ → List ℕ) → (ℕ → ℕ) → Terminal ℕ → List (Terminal (List ℕ))
 replaced gives others f g (Name i) = if gives i then others else Name (f i) ∷ []
 replaced gives others f g (Number i) = Number (g i) ∷ []
 replaced gives others f g (Mark k) = Mark k ∷ []
 replaced gives others f g EndOfText = EndOfText ∷ []
 
--- a token that is kept
+-- A token that isn't replaced is its word's token.
 stays : (w : Word) (gives : ℕ → Bool) (others : List (Terminal (List ℕ))) (f : ℕ → List ℕ) (g : ℕ → ℕ) (j : ℕ) → gives j ≡ false → f j ≡ w.text → g j ≡ value_of w.kind
     → replaced gives others f g (lexeme_of j w.kind) ≡ word_lexeme w ∷ []
 stays w gives others f g j left e h = by_kind w.kind h
@@ -92,7 +93,7 @@ module _ (s : Scanned) (places : List ℕ) (vs : List Word) where
   pub all_put : AreNames s.tokens 0 places → flat_map put (numbered_tokens 0 (words_of s)) ≡ map word_lexeme (changed_words (at_each places vs) 0 (words_of s))
   all_put names = of_all (words_of s) (at_each places vs) put (each_put 0 names)
 
--- a name replaces names
+-- Renaming the tokens is replacing the names by the new name.
 all_renamed : (ws : List Word) (places new : List ℕ) (xs : List (Terminal ℕ))
     → map (relabelled (renamed_at ws places new) (number_at ws)) xs ≡ flat_map (replaced (λ k. is_among k places) (Name new ∷ []) (text_of_word ws) (number_at ws)) xs
 all_renamed ws places new [] = refl

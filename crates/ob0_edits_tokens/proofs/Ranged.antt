@@ -1,4 +1,4 @@
--- The ranges of spans, one after another.
+-- Proves that the loops find the ranges of spans one after another.
 use Rattle.std.proofs.Common.{◌≡◌, ℕ, zero, suc, ◌+◌, ◌*◌, ◌<◌, ◌≤◌, List, [], ◌∷◌, ◌++◌, length, drop, map, take, get_or, refl, sym, ap, ◌∙◌, arith, add-one, append_assoc, length-append}
 use Rattle.std.proofs.lemmas.List.{get_or-map, length-drop, length-map, length-take-le, map-append, map_more}
 use Rattle.std.proofs.lemmas.Simd.{map-map}
@@ -22,7 +22,7 @@ pub bounds_none : [] ≡ bounds []
 unfolding bounds
 bounds_none = refl
 
--- the bounds of one more span
+-- Appending the start and the end of a span gives the bounds of one more span.
 pub bounds_further : (spans : List Span) (i : ℕ) (d : Span) (found : List ℕ) → i < length spans → found ≡ bounds (take i spans)
     → (found ++ (get_or spans i d).start ∷ []) ++ (get_or spans i d).end ∷ [] ≡ bounds (take (i + 1) spans)
 unfolding bounds
@@ -68,14 +68,14 @@ module _ (unit : counting.Unit) (content : List ℕ) (spans : List Span) (i : �
   pub ends_there : (p : Position) → get_or ps (2 * i + 1) p ≡ position_of (width_of unit) content (get_or spans i d).end
   ends_there p = at_bound (2 * i + 1) p (omega (arith, low)) ∙ ap (position_of (width_of unit) content) (end_at spans i d low)
 
--- one more range
+-- Appending a range gives the ranges of one more span.
 pub range_added : (unit : counting.Unit) (content : List ℕ) (spans : List Span) (i : ℕ) (low : i < length spans) (d : Span) (old ranges : List Range) (x : Range)
     → ranges ≡ old ++ map (range_of (width_of unit) content) (take i spans) → x ≡ range_of (width_of unit) content (get_or spans i d)
     → ranges ++ (x ∷ []) ≡ old ++ map (range_of (width_of unit) content) (take (i + 1) spans)
 range_added unit content spans i low d old ranges x so_far is =
     (λ j. so_far j ++ (is j ∷ [])) ∙ append_assoc old _ _ ∙ ap (λ t. old ++ t) (sym (map_more (range_of (width_of unit) content) spans i d low))
 
--- the ranges of one more part
+-- Appending the ranges of a part gives the ranges of all spans up to its end.
 pub part_added : (unit : counting.Unit) (content : List ℕ) (spans : List Span) (n : ℕ) (found more : List Range)
     → length found + n ≤ length spans → found ≡ map (range_of (width_of unit) content) (take (length found) spans)
     → more ≡ found ++ map (range_of (width_of unit) content) (take n (drop (length found) spans))
@@ -88,7 +88,7 @@ part_added unit content spans n found more within so_far is =
     is ∙ ap (λ t. t ++ map f (take n rest)) so_far ∙ sym (map-append f (take (length found) spans) (take n rest))
     ∙ ap (map f) (sym (take-add (length found) n spans) ∙ ap (λ k. take k spans) (sym long))
 
--- the ranges of tokens, each with the same text, are the edits at these tokens
+-- The ranges of tokens, each with the same text, are the edits at these tokens.
 pub edits_at_places : (unit : counting.Unit) (content : List ℕ) (tokens : List Token) (new places : List ℕ) (spans : List Span) (ranges : List Range)
     → spans ≡ map (span_at tokens) places → ranges ≡ map (range_of (width_of unit) content) spans → map (λ (r : Range). (r, new)) ranges ≡ map (edit_at unit content tokens new) places
 edits_at_places unit content tokens new places spans ranges e f =

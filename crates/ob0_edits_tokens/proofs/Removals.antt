@@ -1,5 +1,5 @@
--- Lexemes from which a declaration is removed, and in which some identifiers after it are replaced
--- by other lexemes.
+-- Proves facts about lexemes from which a declaration is removed, and in which some identifiers
+-- after it are replaced by other lexemes.
 use Rattle.std.proofs.Common.{◌≡◌, ℕ, suc, ◌+◌, ◌-◌, ◌<◌, ◌≤◌, ◌==◌, Bool, true, false, ◌&&◌, inl, inr, List, [], ◌∷◌, ◌++◌, length, get_or, drop, map, refl, sym, ap, ◌∙◌, subst, arith, append_assoc, append-nil, length-append, add-zero, le-leb, ⊎_elim}
 use Rattle.std.specs.Prelude.{nat_le, if◌then◌else◌, Some, None}
 use Rattle.std.specs.Char.{is_ascii_alphanumeric}
@@ -26,7 +26,7 @@ use Rattle.ob0_edits_tokens.specs.Removed.{without_words, IsDeclaration, removal
 use Rattle.ob0_edits_tokens.proofs.Swaps.{Chain, chain_from, AllClear, Swapped, swapped, pieced_keep, pieced_here, same_first, first_of, byte_at, further, here_token, make_token, make_word, no_break, not_among}
 use Rattle.ob0_edits_tokens.proofs.Merges.{begins_with_space, MeetsLoosely, merged}
 
--- states that a lexeme of this kind may precede a declaration in a CONST section
+-- holds if a lexeme of this kind may precede a declaration in a CONST section
 abbrev pub OfBorder : LexemeKind → Type 0
 OfBorder (lexeme.Token token.Identifier) = ⊥
 OfBorder (lexeme.Token (token.Reserved w)) = w ≡ reserved.Const
@@ -34,7 +34,7 @@ OfBorder (lexeme.Token (token.Integer n)) = ⊥
 OfBorder (lexeme.Token (token.Symbol s)) = s ≡ symbol.Semicolon
 OfBorder _ = Unit {0}
 
--- after the declaration only the other changes matter
+-- After the declaration only the other changes matter.
 pub past_last : (first last : ℕ) (ch : Changes) (j : ℕ) (xs : List Word) → last < j → changed_words (without_words first last ch) j xs ≡ changed_words ch j xs
 past_last first last ch j [] h = refl
 past_last first last ch j (x ∷ xs) h =
@@ -58,7 +58,8 @@ module _ (text : List ℕ) (tokens : List Token) (new : List ℕ) (ws : List Wor
   abbrev cuts : List Cut
   cuts = removal tokens first last ∷ map (cut_of tokens new) places
 
-  -- the state of a walk over the lexemes
+  -- states the place of a walk over the lexemes: its offset, the index of the next token, and the
+  -- tokens before it
   pub record At (at k : ℕ) (ls : List Lexeme) (done : List Token) : Type 0 where
     pub tokens_are : tokens ≡ done ++ tokens_from at ls
     pub count : length done ≡ k
@@ -87,7 +88,7 @@ module _ (text : List ℕ) (tokens : List Token) (new : List ℕ) (ws : List Wor
   token_here : (at k : ℕ) (l : Lexeme) (ls : List Lexeme) (done : List Token) (kind : TokenKind) → l.kind ≡ lexeme.Token kind → At at k (l ∷ ls) done → place.token_or_empty tokens k ≡ make_token kind (span_from at (length l.text))
   token_here at k l ls done kind f a = here_token text tokens new ws replaces k done (tokens_from (at + length l.text) ls) (make_token kind (span_from at (length l.text))) (this_token at k l ls done kind f a) a.count
 
-  -- the lexemes after the declaration, starting at some place in it
+  -- states which lexemes are after the declaration, starting at some place in it
   record After (at k : ℕ) (ls : List Lexeme) : Type 0 where
     after : ℕ
     rest : List Lexeme
@@ -148,7 +149,8 @@ module _ (text : List ℕ) (tokens : List Token) (new : List ℕ) (ws : List Wor
               let further_on : suc k ≤ last = grind (arith, nat_tests) in
               skip_more at k (suc k) l ls (words_gone k l ls kind f low high) (more (done ++ (make_token kind (span_from at (length l.text)) ∷ [])) (next_token at k l ls done kind f a) further_on)
 
-  -- the lexemes after a place, with the declaration removed and the new ones at the places
+  -- states that the lexemes after a place are known, with the declaration removed and the new
+  -- lexemes at the places
   pub record Cleared (at k : ℕ) (ls : List Lexeme) : Type 0 where
     pub lexemes : List Lexeme
     pub apart : AreApart lexemes
@@ -173,7 +175,7 @@ module _ (text : List ℕ) (tokens : List Token) (new : List ℕ) (ws : List Wor
         clear = tail.clear;
       }
 
-  -- the declaration begins here
+  -- If the declaration begins here, it is removed.
   remove : (at k : ℕ) (l : Lexeme) (ls : List Lexeme) (done : List Token) (kind : TokenKind) → l.kind ≡ lexeme.Token kind → k ≡ first → At at k (l ∷ ls) done → Cleared at k (l ∷ ls)
   remove at k l ls done kind f now a =
       let following = skip at k (l ∷ ls) done a (omega (arith, now)) (omega (arith, now, decl.order)) in

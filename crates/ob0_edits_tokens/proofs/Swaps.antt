@@ -1,4 +1,4 @@
--- Lexemes in which some identifiers are replaced by other lexemes.
+-- Proves facts about lexemes in which some identifiers are replaced by other lexemes.
 use Rattle.std.proofs.Common.{◌≡◌, ◌≢◌, ℕ, zero, suc, ◌+◌, ◌-◌, ◌<◌, ◌≤◌, ◌==◌, Bool, true, false, ◌||◌, List, [], ◌∷◌, ◌++◌, length, get_or, take, drop, map, refl, sym, ap, ap₂, ◌∙◌, subst, arith, append_assoc, append-nil, length-append, add-zero, eqb-true, eq-eqb}
 use Rattle.std.specs.Prelude.{if◌then◌else◌, Some, None}
 use Rattle.std.specs.Char.{is_ascii_alphanumeric}
@@ -30,14 +30,14 @@ pub words-append : (xs ys : List Lexeme) → words (xs ++ ys) ≡ words xs ++ wo
 words-append [] ys = refl
 words-append (x ∷ xs) ys = ap (λ t. word_of x x.kind ++ t) (words-append xs ys) ∙ sym (append_assoc (word_of x x.kind) (words xs) (words ys))
 
--- no index below the least is among the places
+-- No index below the least is among the places.
 pub not_among : (tokens : List Token) (least k : ℕ) (places : List ℕ) → AreNames tokens least places → k < least → is_among k places ≡ false
 not_among tokens least k [] names below = refl
 not_among tokens least k (p ∷ ps) names below =
     let other : (k == p) ≡ false = false_from_ne_true (k == p) (λ e. absurd (omega (arith, eqb-true k p e, names.0))) in
     rw (other) (not_among tokens (suc p) k ps names.3 (omega (arith, names.0)))
 
--- a place that the walk has left behind no longer matters
+-- A place that the walk has passed no longer matters.
 past : (p : ℕ) (ps : List ℕ) (ws : List Word) (j : ℕ) (xs : List Word) → p < j → changed_words (at_each (p ∷ ps) ws) j xs ≡ changed_words (at_each ps ws) j xs
 past p ps ws j [] h = refl
 past p ps ws j (x ∷ xs) h =
@@ -67,7 +67,7 @@ drop_front (x ∷ xs) ys = drop_front xs ys
 pub further : (text : List ℕ) (at : ℕ) (front rest : List ℕ) → drop at text ≡ front ++ rest → drop (at + length front) text ≡ rest
 further text at front rest e = sym (drop-drop (length front) at text) ∙ ap (drop (length front)) e ∙ drop_front front rest
 
--- the text before the first cut is kept
+-- The text before the first cut is kept.
 pub pieced_keep : (text : List ℕ) (at : ℕ) (front rest : List ℕ) (cs : List Cut) → drop at text ≡ front ++ rest → Chain (at + length front) cs → pieced text at cs ≡ front ++ pieced text (at + length front) cs
 unfolding pieced
 pieced_keep text at front rest [] e chain = e ∙ ap (λ t. front ++ t) (sym (further text at front rest e))
@@ -86,11 +86,11 @@ pub first_of : (w xs : List ℕ) → 0 < length w → get_or (w ++ xs) 0 0 ≡ g
 first_of [] xs h = absurd (omega arith)
 first_of (x ∷ w) xs h = refl
 
--- a letter or digit differs from every byte that is neither
+-- A letter or digit differs from every byte that is neither.
 pub no_break : {b : ℕ} (other : ℕ) → is_ascii_alphanumeric other ≡ false → is_ascii_alphanumeric b ≡ true → b ≢ other
 no_break other h k e = let clash : true ≡ false = sym k ∙ ap is_ascii_alphanumeric e ∙ h in cc
 
--- a byte of a text, read from the rest after a place
+-- A byte of a text can be read from the rest after a place.
 pub byte_at : (text : List ℕ) (at i : ℕ) → get_or text (at + i) 0 ≡ get_or (drop at text) i 0
 byte_at text zero i = ap (λ n. get_or text n 0) (omega arith)
 byte_at [] (suc at) i = refl
@@ -98,7 +98,7 @@ byte_at (b ∷ text) (suc at) i =
     let up : suc at + i ≡ suc (at + i) = omega arith in
     ap (λ n. get_or (b ∷ text) n 0) up ∙ byte_at text at i
 
--- the first cut begins at the place
+-- If the first cut begins at the place, the text begins with the cut's new text.
 pub pieced_here : (text : List ℕ) (at : ℕ) (c : Cut) (end : ℕ) (cs : List Cut) → c.from ≡ at → c.to ≡ end → pieced text at (c ∷ cs) ≡ c.new ++ pieced text end cs
 unfolding pieced
 pieced_here text at c end cs f t =
@@ -113,7 +113,8 @@ abbrev pub make_token : TokenKind → Span → Token
 make_token kind span = record { kind = kind; span = span }
 
 module _ (text : List ℕ) (tokens : List Token) (new : List ℕ) (ws : List Word) (replaces : ReplacesName new ws) where
-  -- the lexemes after a place, with the new ones at the places; the first token has the index k
+  -- states that the lexemes after a place are known, with the new lexemes at the places; the first
+  -- token has the index k
   pub record Swapped (at k : ℕ) (ls : List Lexeme) (places : List ℕ) : Type 0 where
     pub lexemes : List Lexeme
     pub apart : AreApart lexemes
@@ -123,7 +124,7 @@ module _ (text : List ℕ) (tokens : List Token) (new : List ℕ) (ws : List Wor
     pub chain : Chain at (map (cut_of tokens new) places)
     pub clear : AllClear text (map (cut_of tokens new) places)
 
-  -- a lexeme that is kept
+  -- A lexeme that isn't at a place is kept.
   keep : (at k m : ℕ) (l : Lexeme) (ls : List Lexeme) (places : List ℕ) → drop at text ≡ joined (l ∷ ls) → AreApart (l ∷ ls)
       → changed_words (at_each places ws) k (words (l ∷ ls)) ≡ word_of l l.kind ++ changed_words (at_each places ws) m (words ls)
       → Swapped (at + length l.text) m ls places → Swapped at k (l ∷ ls) places
@@ -137,12 +138,12 @@ module _ (text : List ℕ) (tokens : List Token) (new : List ℕ) (ws : List Wor
     clear = tail.clear;
   }
 
-  -- the token with an index
+  -- The token with an index is the next one after as many tokens.
   pub here_token : (k : ℕ) (done more : List Token) (t : Token) → tokens ≡ done ++ (t ∷ more) → length done ≡ k → place.token_or_empty tokens k ≡ t
   here_token k done more t e count =
       ap (λ ts. place.token_or_empty ts k) e ∙ ap (λ n. place.token_or_empty (done ++ (t ∷ more)) n) (sym count) ∙ get_or-append_seam done t more _
 
-  -- a token that is replaced
+  -- The token at a place is replaced.
   swap : (at k : ℕ) (l : Lexeme) (ls : List Lexeme) (ps : List ℕ) → drop at text ≡ joined (l ∷ ls) → AreApart (l ∷ ls)
       → l.kind ≡ lexeme.Token token.Identifier → span_at tokens k ≡ span_from at (length l.text)
       → Swapped (at + length l.text) (suc k) ls ps → Swapped at k (l ∷ ls) (k ∷ ps)
@@ -180,7 +181,7 @@ module _ (text : List ℕ) (tokens : List Token) (new : List ℕ) (ws : List Wor
       byte_of : (i : ℕ) → i < length l.text → get_or text (at + i) 0 ≡ get_or l.text i 0
       byte_of i less = byte_at text at i ∙ ap (λ t. get_or t i 0) e ∙ get_or_append_left l.text (joined ls) 0 i less
 
-  -- the property of the lexemes after the first
+  -- holds if the lexemes after the first one can be replaced
   abbrev Later : ℕ → List Lexeme → Type 0
   Later at ls = (m : ℕ) (qs : List ℕ) (before : List Token) → tokens ≡ before ++ tokens_from at ls → length before ≡ m → AreNames tokens m qs → Swapped at m ls qs
 
@@ -239,7 +240,7 @@ module _ (text : List ℕ) (tokens : List Token) (new : List ℕ) (ws : List Wor
     at_lexeme lexeme.Comment f = gap lexeme.Comment f refl refl
     at_lexeme (lexeme.Token kind) f = at_token kind f
 
-  -- all the lexemes after a place, the first token of which has the index k
+  -- The lexemes after a place can be replaced. The first token of these has the index k.
   pub swapped : (at k : ℕ) (ls : List Lexeme) (places : List ℕ) (done : List Token) → tokens ≡ done ++ tokens_from at ls → length done ≡ k
       → drop at text ≡ joined ls → AreApart ls → AreNames tokens k places → Swapped at k ls places
   swapped at k [] [] done te count e apart names = record { lexemes = []; apart = tt; read = refl; whole = sym e ∙ pieced_end text at; front = λ kind h. h; chain = tt; clear = tt }

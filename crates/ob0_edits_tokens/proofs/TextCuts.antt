@@ -1,4 +1,4 @@
--- Edits at places of a text, in order: the text that they leave, in bytes and in characters.
+-- Proves which text the edits at ascending places of a text leave, in bytes and in characters.
 use Rattle.std.proofs.Common.{◌≡◌, ℕ, ◌+◌, ◌-◌, ◌<◌, ◌≤◌, Bool, true, false, List, [], ◌∷◌, ◌++◌, length, get_or, take, drop, min, max, refl, sym, ap, ap₂, ◌∙◌, subst, arith, length-append, get_or-append-add, le-leb}
 use Rattle.std.specs.Prelude.{nat_le, if◌then◌else◌, Some, None, encode_utf8_all}
 use Rattle.std.specs.List.{list_all}
@@ -19,12 +19,13 @@ use Rattle.ob0_text.proofs.CutOrder.{bytes_further}
 use Rattle.ob0_text.proofs.Pieces.{middle_chars, last_chars}
 use Rattle.ob0_edits_tokens.specs.Replaced.{AreInOrder}
 
--- states that the cuts follow one another
+-- holds if each cut begins at or after the end of the one before it, and the first one at or after
+-- `at`
 abbrev pub Chain : ℕ → List Cut → Type 0
 Chain at [] = Unit {0}
 Chain at (c ∷ cs) = (at ≤ c.from) × (c.from ≤ c.to) × Chain c.to cs
 
--- cuts that are in order follow one another
+-- Cuts that are in order follow one another.
 pub chained : (at : ℕ) (cs : List Cut) → AreInOrder at cs → Chain at cs
 chained at [] order = tt
 chained at (c ∷ cs) order = (order.0, omega (arith, order.1), chained c.to cs order.2)
@@ -81,7 +82,7 @@ module _ (unit : counting.Unit) (bytes : List ℕ) (u : IsUtf8 bytes) where
   text : List ℕ
   text = chars bytes
 
-  -- the position of a place that isn't inside a line ending leads back to that place
+  -- The position of a place that isn't inside a line ending leads back to that place.
   goes_to : (offset k : ℕ) → IsPlace bytes offset k → (IsEnding bytes offset → ⊥) → place (width_of unit) (chars bytes) (position_of (width_of unit) (chars bytes) offset) ≡ k
   unfolding place
   goes_to offset k p clear =
@@ -97,7 +98,7 @@ module _ (unit : counting.Unit) (bytes : List ℕ) (u : IsUtf8 bytes) where
     pub new : c.new ≡ chars b.new
     pub utf8 : IsUtf8 b.new
 
-  -- if a place is after another in bytes, it is also after it in characters
+  -- If a place isn't after another in bytes, it isn't after it in characters.
   up_in_chars : (x y k m : ℕ) → IsPlace bytes x k → IsPlace bytes y m → x ≤ y → k ≤ m
   up_in_chars x y k m p q h = by_test (nat_le k m) refl
     where
@@ -166,7 +167,7 @@ module _ (unit : counting.Unit) (bytes : List ℕ) (u : IsUtf8 bytes) where
       }
   pieces at k _ _ p same chain = absurd same
 
--- cuts that follow one another are in text order, and apart
+-- Inserting a cut before cuts that follow it puts it first.
 first_stays : (c : Cut) (cs : List Cut) → c.from ≤ c.to → Chain c.to cs → put_in_order c cs ≡ c ∷ cs
 first_stays c [] some chain = refl
 first_stays c (d ∷ ds) some chain =
@@ -193,7 +194,7 @@ unfolding patched_by_cuts
 patched_in_order text cs chain =
     ap (λ b. if b then Some (pieced text 0 (in_text_order cs)) else None) (all_are_apart 0 cs chain) ∙ ap (λ xs. Some (pieced text 0 xs)) (order_stays 0 cs chain)
 
--- cuts in bytes leave the same text as the same cuts in characters
+-- Cuts in bytes leave the same text as the same cuts in characters.
 pub patched_by_same : (unit : counting.Unit) (bytes : List ℕ) (u : IsUtf8 bytes) (bs cs : List Cut) → AreSame unit bytes u bs cs → Chain 0 bs → IsUtf8 (pieced bytes 0 bs) × (patched_by_cuts (chars bytes) cs ≡ Some (chars (pieced bytes 0 bs)))
 patched_by_same unit bytes u bs cs same chain =
     let start : IsPlace bytes 0 0 = record { inside = omega arith; here = refl } in

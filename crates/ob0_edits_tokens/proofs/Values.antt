@@ -1,4 +1,4 @@
--- The values of constants may stand wherever an identifier stands.
+-- Proves that the values of constants may replace any identifier.
 use Rattle.std.proofs.Common.{◌≡◌, ℕ, suc, ◌+◌, ◌-◌, ◌*◌, ◌/◌, ◌%◌, length-append, ◌<◌, ◌≤◌, ◌^◌, Bool, true, false, List, [], ◌∷◌, ◌++◌, length, get_or, refl, sym, ap, ◌∙◌, arith, append-nil}
 use Rattle.std.specs.Prelude.{codes, decimal, ℤ, pos, negsuc, nat_lt, if◌then◌else◌}
 use Rattle.std.specs.List.{AllPass}
@@ -49,7 +49,7 @@ digits_lexeme n h =
     let w = writes n (omega arith) in
     record { digits = record { nonempty = w.some; all = w.all }; value_of_digits = sym w.value; fits = h }
 
--- a number that isn't negative
+-- A number that isn't negative may replace any identifier.
 pub a_number : (n : ℕ) → n ≤ 2147483647 → ReplacesName (decimal n) (integer_word n ∷ [])
 a_number n h =
     let w = writes n (omega arith) in
@@ -62,7 +62,7 @@ a_number n h =
       apart = λ byte e. (record { belongs = digits_lexeme n h; ends = e }, tt);
     }
 
--- a negative number, in parentheses
+-- A negative number in parentheses may replace any identifier.
 pub a_negative : (n : ℕ) → suc n ≤ 2147483647
     → ReplacesName (codes "(-" ++ (decimal (suc n) ++ codes ")")) (symbol_word symbol.LeftParen ∷ symbol_word symbol.Minus ∷ integer_word (suc n) ∷ symbol_word symbol.RightParen ∷ [])
 a_negative n h = record {
@@ -77,7 +77,7 @@ a_negative n h = record {
   apart = λ byte e. (record { belongs = refl; ends = refl }, (record { belongs = refl; ends = refl }, (record { belongs = digits_lexeme (suc n) h; ends = refl }, (record { belongs = refl; ends = refl }, tt))));
 }
 
--- the least number
+-- The least number, written as a difference, may replace any identifier.
 pub the_least : ReplacesName (codes "(-2147483647 - 1)") (symbol_word symbol.LeftParen ∷ symbol_word symbol.Minus ∷ record { kind = token.Integer 2147483647; text = codes "2147483647" } ∷ symbol_word symbol.Minus ∷ record { kind = token.Integer 1; text = codes "1" } ∷ symbol_word symbol.RightParen ∷ [])
 the_least = record {
   lexemes = record { kind = lexeme.Token (token.Symbol symbol.LeftParen); text = symbol_text symbol.LeftParen }
@@ -104,7 +104,7 @@ the_least = record {
     unit : IsInteger 1 (codes "1")
     unit = record { digits = record { nonempty = omega arith; all = AllPass-from_list_all is_ascii_digit (codes "1") refl }; value_of_digits = refl; fits = omega arith }
 
--- the value of a constant: any 32-bit number
+-- Any 32-bit number may replace any identifier.
 pub a_value : (z : ℤ) → IsInt32 z → ReplacesName (number_text z) (number_words z)
 a_value (pos n) h = a_number n h
 a_value (negsuc n) h = by_test (nat_lt n 2147483647) refl
@@ -131,7 +131,7 @@ false_free reserved.Array e = omega (arith, ap (λ t. get_or t 0 0) e)
 false_free reserved.Until e = omega (arith, ap (λ t. get_or t 0 0) e)
 false_free _ e = omega (arith, ap length e)
 
--- TRUE and FALSE
+-- TRUE and FALSE may replace any identifier.
 pub a_truth : (b : Bool) → ReplacesName (truth_text b) (truth_words b)
 a_truth true = a_name (codes "TRUE") (record { word = record { letter = refl; all = AllPass-from_list_all is_ascii_alphanumeric (codes "TRUE") refl }; free = true_free })
 a_truth false = a_name (codes "FALSE") (record { word = record { letter = refl; all = AllPass-from_list_all is_ascii_alphanumeric (codes "FALSE") refl }; free = false_free })

@@ -1,4 +1,5 @@
--- A text in which some identifiers are replaced by another text, and the edits that do this.
+-- Defines a text in which some identifiers are replaced by another text, and the edits that do
+-- this.
 -- Rule: docs/PROTOCOL.md, Requests on documents 10.
 use Rattle.std.specs.Prelude.{◌≡◌, ℕ, suc, ◌<◌, ◌≤◌, false, List, [], ◌∷◌, ◌++◌, length, map, IsTrue, Some, slice_index, slice_index_or, string_bytes}
 use Rattle.std.specs.Char.{is_ascii_alphabetic, is_ascii_alphanumeric}
@@ -18,18 +19,18 @@ use Rattle.ob0_text.specs.Patches.{Cut, pieced, patched}
 use Rattle.ob0_edits_tokens.specs.Changed.{words_of}
 use Rattle.ob0_edits_tokens.specs.Ranges.{range_of}
 
--- the token with this index; if there is none, an empty token at the text's start
+-- returns the token with this index; if there is none, an empty token at the text's start
 abbrev pub token_or_empty : List Token → ℕ → Token
 token_or_empty tokens p =
     slice_index_or tokens p
     (record { kind = token.Identifier; span = record { start = 0; end = 0 } })
 
--- the span of the token with this index
+-- returns the span of the token with this index
 abbrev pub span_at : List Token → ℕ → Span
 span_at tokens p = (token_or_empty tokens p).span
 
--- States that the places are indexes of identifiers among the tokens, not below the least, and each
--- greater than the one before.
+-- Holds if the places are indexes of identifiers among the tokens. They ascend, and each is at
+-- least `least`.
 abbrev pub AreNames : List Token → ℕ → List ℕ → Type 0
 AreNames tokens least [] = Unit {0}
 AreNames tokens least (p ∷ ps) =
@@ -38,30 +39,29 @@ AreNames tokens least (p ∷ ps) =
     × ((token_or_empty tokens p).kind ≡ token.Identifier)
     × AreNames tokens (suc p) ps
 
--- the cut that replaces a token by the new text, with places counted in bytes
+-- returns the cut that replaces a token by the new text, with places counted in bytes
 abbrev pub cut_of : List Token → List ℕ → ℕ → Cut
 cut_of tokens new p =
     record { from = (span_at tokens p).start; to = (span_at tokens p).end; new = new }
 
--- the text with the new text at each place
+-- returns the text with the new text at each place
 abbrev pub with_text_at : Scanned → List ℕ → List ℕ → List ℕ
 with_text_at s places new = pieced s.text 0 (map (cut_of s.tokens new) places)
 
--- states that each cut begins at or after the end of the one before it, and removes at least one
--- byte
+-- holds if each cut begins at or after the end of the one before it, and removes at least one byte
 abbrev pub AreInOrder : ℕ → List Cut → Type 0
 AreInOrder at [] = Unit {0}
 AreInOrder at (c ∷ cs) = (at ≤ c.from) × (c.from < c.to) × AreInOrder c.to cs
 
--- states that each lexeme ends before the next one, and the last one ends before this byte
+-- holds if each lexeme ends before the next one, and the last one ends before this byte
 abbrev pub AreApartBefore : List Lexeme → ℕ → Type 0
 AreApartBefore [] byte = Unit {0}
 AreApartBefore (l ∷ lexemes) byte =
     EndsBefore l (slice_index (joined lexemes ++ (byte ∷ [])) 0) × AreApartBefore lexemes byte
 
--- States that a text, which is read as these words, may stand wherever an identifier stands. A
--- lexeme that ends before a letter ends before the text's first byte. The text's own lexemes end
--- before one another, and the last one ends before every byte that ends an identifier.
+-- States that a text, which is read as these words, may replace any identifier. A lexeme that ends
+-- before a letter ends before the text's first byte. The text's own lexemes end before one another,
+-- and the last one ends before every byte that ends an identifier.
 pub record ReplacesName (new : List ℕ) (ws : List Word) : Type 0 where
   pub lexemes : List Lexeme
   pub whole : joined lexemes ≡ new
@@ -73,15 +73,15 @@ pub record ReplacesName (new : List ℕ) (ws : List Word) : Type 0 where
       → continues kind (slice_index new 0) ≡ false
   pub apart : (byte : ℕ) → is_ascii_alphanumeric byte ≡ false → AreApartBefore lexemes byte
 
--- an edit as its range and the bytes of its text
+-- returns an edit as its range and the bytes of its text
 abbrev pub parts : Edit → Range × List ℕ
 parts edit = (edit.range, string_bytes edit.text)
 
--- the edit at a place: the token's range and the new text
+-- returns the edit at a place: the token's range and the new text
 abbrev pub edit_at : counting.Unit → List ℕ → List Token → List ℕ → ℕ → Range × List ℕ
 edit_at unit text tokens new p = (range_of (width_of unit) text (span_at tokens p), new)
 
--- States that the edits leave a text that is scanned and has these words.
+-- States that the text after the edits is scanned and has these words.
 pub record LeavesWords
     (unit : counting.Unit) (text : List ℕ) (edits : List Edit) (ws : List Word) : Type 0 where
   pub after : Scanned

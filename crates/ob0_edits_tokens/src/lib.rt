@@ -1,4 +1,5 @@
-//! Edits that replace tokens of a text or remove a declaration, and the text that they leave.
+//! Makes edits that replace tokens of a text or remove a declaration, and proves which text they
+//! leave.
 #![tactic(auto)]
 
 pub mod laws;

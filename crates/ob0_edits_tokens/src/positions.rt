@@ -1,4 +1,4 @@
-//! The places of tokens, as spans and as ranges of positions.
+//! Finds the places of tokens, as spans and as ranges of positions.
 
 ghost use Rattle.std.specs.Prelude.{◌≡◌, ◌++◌, IfOk, OnOk, map};
 ghost use Rattle.ob0_edits_tokens.specs.Replaced.{span_at};
@@ -9,10 +9,11 @@ use ob0_scan::{Span, Token};
 use ob0_text::{Range, TextStore};
 use std::alloc::{AllocError, Global};
 
-/// Spans are converted in chunks of this many, so that the buffers stay small.
+/// The number of spans that are converted at once, so that the buffers stay small.
 const PART: usize = 16_384;
 
-/// Returns the ranges of spans. If the spans are in text order, one pass over the text finds them.
+/// Returns the ranges of spans, in the same order. If the spans are in text order, one pass over
+/// the text finds them.
 pub fn ranges<T: TextStore>(
     alloc: Global,
     store: &T,
@@ -51,7 +52,7 @@ fn add_ranges<T: TextStore>(
     Ok(())
 }
 
-/// Returns the starts and ends of spans, one span after another.
+/// Returns the start and the end of each span, one span after another.
 fn bounds(alloc: Global, spans: &[Span]) -> Result<Vec<usize>, AllocError>
     ensures { IfOk result (λ offsets. offsets.items ≡ bounds spans.now) }
 {
@@ -77,7 +78,8 @@ pub(crate) fn spans_of(
         .collect(alloc)
 }
 
-/// Returns the span of a token, or an empty span at the text's start if there is no such token.
+/// Returns the span of a token, in bytes. If there is no such token, it is an empty span at the
+/// text's start.
 fn span_at(tokens: &[Token], place: usize) -> Span
     ensures { result ≡ span_at tokens.now place }
 {

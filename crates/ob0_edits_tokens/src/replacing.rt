@@ -1,4 +1,4 @@
-//! The edits that replace several identifiers by one text.
+//! Makes the edits that replace several identifiers by one text.
 
 ghost use Rattle.std.specs.Prelude.{◌≡◌, ◌⊎◌, ◌+◌, ◌++◌, ◌∷◌, [], suc, OnOk, ◌≤◌, ◌<◌, nat_lt, List, length, map, IfOk, IfErr, IsErrOf};
 ghost use Rattle.std.specs.Str.{chars};
@@ -17,7 +17,8 @@ use ob0_text::{Edit, EditRefusal, Range, TextStore};
 use std::alloc::Global;
 
 /// Returns one edit for each of the places, which are indexes of identifiers among the tokens, in
-/// text order.
+/// text order. Fails with `TooLong` if the new text is longer than a text may be, and with `Memory`
+/// if an allocation fails.
 pub fn edits_for<T: TextStore>(
     alloc: Global,
     store: &T,
@@ -39,7 +40,7 @@ pub fn edits_for<T: TextStore>(
         → max_text < length (with_text_at tokens.now places.now new.now) }
     ensures refusals { IfErr result (λ refusal. (refusal ≡ TooLong) ⊎ (refusal ≡ Memory)) }
 {
-    // For the proof: the contract of this call is needed.
+    // The proof needs the contract of this call.
     let _text = tokens.text();
     if is_too_long(tokens, 0, 0, places, new) {
         return Err(EditRefusal::TooLong);
@@ -49,8 +50,9 @@ pub fn edits_for<T: TextStore>(
     Ok(edits)
 }
 
-/// Returns an edit that removes a declaration, from its first token to its last. Edits that replace
-/// the tokens at some later places by a text follow it.
+/// Returns an edit that removes a declaration, from its first token to its last. After it come
+/// edits that replace the tokens at some later places by a text. Fails with `TooLong` if the new
+/// text is longer than a text may be, and with `Memory` if an allocation fails.
 pub fn edits_without<T: TextStore>(
     alloc: Global,
     store: &T,
@@ -80,7 +82,7 @@ pub fn edits_without<T: TextStore>(
         → max_text < length (without_text tokens.now first last places.now new.now) }
     ensures refusals { IfErr result (λ refusal. (refusal ≡ TooLong) ⊎ (refusal ≡ Memory)) }
 {
-    // For the proof: the contract of this call is needed.
+    // The proof needs the contract of this call.
     let _text = tokens.text();
     let start = tokens.tokens()[first].span.start;
     let end = tokens.tokens()[last].span.end;
@@ -97,7 +99,8 @@ pub fn edits_without<T: TextStore>(
     Ok(edits)
 }
 
-/// Appends one edit for each of the places. One pass over the text finds their ranges.
+/// Appends one edit for each of the places. One pass over the text finds their ranges. Fails only
+/// with `Memory`.
 fn add_edits<T: TextStore>(
     alloc: Global,
     store: &T,
@@ -135,8 +138,8 @@ pub fn range_of<T: TextStore>(store: &T, span: Span) -> Range
     }
 }
 
-/// Returns whether `counted` bytes, and the text after `end` with the new text at all places, are
-/// more than a text may have.
+/// Returns true if a text is longer than a text may be. It has `counted` bytes, and then the text
+/// after `end` with the new text at all places.
 fn is_too_long(tokens: &Tokens, counted: usize, end: usize, places: &[usize], new: &str) -> bool
     requires names { AreNames tokens.now.tokens 0 places.now }
     requires order { AreInOrder end (map (cut_of tokens.now.tokens new.now) places.now) }

@@ -1,6 +1,6 @@
--- The answer at a name of a constant.
+-- Proves the answer at a name of a constant.
 -- As for uses, `Made` and `IsRefused` carry the facts about the edits over to the module of the
--- contract. If no use is hidden, `all_seen` shows what the law of inlining everywhere requires.
+-- contract. If no use is hidden, `all_seen` shows the premise of the law of inlining everywhere.
 use Rattle.std.proofs.Common.{zero, arith, ◌≡◌, ◌⊎◌, ℕ, ℤ, suc, ◌+◌, ◌-◌, ◌<◌, ◌&&◌, ◌||◌, not, Bool, true, false, if◌then◌else◌, Option, Some, None, List, [], ◌∷◌, length, map, refl, sym, ap, ◌∙◌, IsSomeAnd, MatchOption, option_and_then, slice_get, eq-eqb, true≢false}
 use Rattle.std.specs.List.{list_any, range_with_len}
 use Rattle.ob0_text.specs.declared.edits.Edit.{Edit}
@@ -31,7 +31,7 @@ use Rattle.ob0_inline.specs.Values.{value_factor, value_text}
 use Rattle.ob0_inline.proofs.AtUses.{literal_of, shown_is}
 use Rattle.ob0_inline.proofs.Refusals.{MakeText, Refused, other_is_first, refused_first}
 
--- if no number after a given one passes
+-- If a test finds no number in a range, each number of the range fails it.
 
 none_passes : (f : ℕ → Bool) (a n k : ℕ) → list_any f (range_with_len a n) ≡ false → k < n → f (a + k) ≡ false
 none_passes f a zero k e h = absurd (omega (arith, h))
@@ -43,7 +43,7 @@ none_passes f a (suc n) k e h = by_test (f a) refl e k h (none_passes f (a + 1) 
     by_test false q e zero h later = ap f (let z : a + 0 ≡ a = omega arith in z) ∙ q
     by_test false q e (suc k) h later = ap f (let z : a + suc k ≡ a + 1 + k = omega arith in z) ∙ later k e (omega (arith, h))
 
--- the next number, if this one doesn't pass
+-- If a number doesn't pass a test, a number of the range passes exactly if a later one does.
 pub passes_further : (f : ℕ → Bool) (a n : ℕ) → a < n → f a ≡ false → list_any f (range_with_len (a + 1) (n - (a + 1))) ≡ list_any f (range_with_len a (n - a))
 passes_further f a n h e =
     sym (ap (λ k. list_any f (range_with_len a k)) (let z : n - a ≡ suc (n - (a + 1)) = omega (arith, h) in z) ∙ ap (λ b. b || list_any f (range_with_len (a + 1) (n - (a + 1)))) e)
@@ -63,11 +63,11 @@ module _ (m : Tree Name module_text) (c : NamedConstant) (none : any_hidden m c 
       one true e = refl
       one false e = absurd (true≢false e)
 
-  -- at each use, the truth value would be the predeclared name
+  -- At each use, the truth value would be the predeclared name.
   pub all_seen : (k : ℕ) → binds m k ≡ Some c.ordinal → IsPredeclaredTruth m k (scalar_value c.value)
   all_seen k e = shown_is m k c.value (shown_each k e)
 
--- a number is written without a name, so it isn't hidden
+-- A number is written without a name, so it isn't hidden.
 none_of : (f : ℕ → Bool) (ks : List ℕ) → list_any (λ k. f k && false) ks ≡ false
 none_of f [] = refl
 none_of f (k ∷ ks) = one (f k) ∙ none_of f ks
@@ -81,7 +81,7 @@ numbers_shown m c n e =
     (λ i. list_any (λ k. same_ordinal (binds m k) c.ordinal && not (is_predeclared_truth m k (e i))) (range_with_len 0 (length (bindings m))))
     ∙ none_of (λ k. same_ordinal (binds m k) c.ordinal) (range_with_len 0 (length (bindings m)))
 
--- the constant whose name was found
+-- The constant with the name at the place is the constant at the place.
 pub constant_named : (m : Parsed) (offset : ℕ) (found : named.Named) → Some found ≡ name_on m offset → (o : Option NamedConstant) → IsSomeAnd o (λ c. (c.ordinal ≡ found.ordinal) × IsConstant m c)
     → MatchOption o (NoConstantAt m offset) (λ c. IsConstantAt m offset c)
 constant_named m offset found e None h = absurd h

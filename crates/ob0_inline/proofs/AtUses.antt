@@ -1,4 +1,4 @@
--- The answer at a use.
+-- Proves the answer at a use.
 -- One `subst` carries the facts about the edits over to the module of the contract, as one record
 -- (`Made`, `IsRefused`).
 use Rattle.std.proofs.Common.{cond, zero, arith, eq-eqb, ◌≡◌, ◌⊎◌, ℕ, suc, ◌+◌, ◌==◌, Bool, true, false, if◌then◌else◌, Option, Some, None, List, [], ◌∷◌, length, map, refl, sym, ap, ◌∙◌, subst, option_and_then, option_map, slice_get, eqb-true, true≢false}
@@ -42,7 +42,7 @@ use Rattle.ob0_inline.proofs.ModuleTexts.{spelled_by_words, value_spelled}
 use Rattle.ob0_inline.proofs.Refusals.{MakeText, Refused, other_is_first, refused_first}
 use Rattle.ob0_inline.proofs.UsesAreIdentifiers.{AreBound, one_identifier, one_place, uses_are_identifiers, uses_ascend, uses_spelled}
 
--- the text that is written for a value, and whether its name is the predeclared one
+-- the text that is written for a value, and whether the name in it is the predeclared one
 
 pub literal_of : (value : Scalar) → written_value (scalar_value value) ≡ Some (value_factor value)
 literal_of (scalar.Truth true) = refl
@@ -53,7 +53,7 @@ shown_is m k (scalar.Number n) e = tt
 shown_is m k (scalar.Truth true) e = same_ordinal-true _ 2 e
 shown_is m k (scalar.Truth false) e = same_ordinal-true _ 3 e
 
--- the use at a place is a use
+-- The use that is found at a place is a use.
 
 some_named : (token ordinal : ℕ) (found : Option ℕ) (ordinals : List (Option ℕ)) → option_and_then (named_so ordinals) found ≡ Some (record { token = token; ordinal = ordinal }) → ordinal_in ordinals token ≡ Some ordinal
 some_named token ordinal None ordinals e = absurd (cc)
@@ -92,7 +92,7 @@ module _ (r : Resolution) (is : IsResolution r) (u : Use) (use_so : IsUse r.modu
   unfolding there
   are_bound = (((u.occurrence, there), bound_at r is u.occurrence (Some u.token) (sym there) ∙ use_so.bound), tt)
 
-  -- the words, with the value's words in place of the use, spell the inlined module
+  -- The words, with the value's words in place of the use, spell the inlined module.
   pub here_spelled : IsAlone r.module_read u.constant
       → map word_lexeme (changed_words (at_each (u.token ∷ []) (value_words u.value)) 0 (words_of r.module_read.source)) ≡ spell (inlined_here r.module_read u)
   here_spelled alone =
@@ -121,7 +121,7 @@ module _ (r : Resolution) (well : IsWellTyped r) (u : Use) (use_so : IsUse r.mod
         seen = λ k h. subst (λ n. IsPredeclaredTruth m n (scalar_value u.value)) (sym (eqb-true k u.occurrence h)) (shown_so e);
       }
 
-  -- the edits that leave the inlined module
+  -- The edits leave the inlined module.
   pub inlines : InliningKeepsModules → IsScalar (scalar_value u.value) → (unit : counting.Unit) (text : List ℕ) (edits : List Edit)
       → map parts edits ≡ edit_at unit text r.module_read.source.tokens (value_text u.value) u.token ∷ []
       → LeavesModule unit text edits (inlined_here r.module_read u)
@@ -165,7 +165,7 @@ module _ (r : Resolution) (well : IsWellTyped r) (u : Use) (use_so : IsUse r.mod
   answer_refused =
       refused_first (IsAlone r.module_read u.constant) (is_alone r well u use_so law scalar_so) (new_text r u) (inlined_here r.module_read u) (hidden (is_predeclared_truth (named_tree_of r.module_read) u.occurrence u.value))
 
--- the occurrence at a token
+-- A search finds the first entry that is this token, with its index.
 pub found_there : (token j k : ℕ) (is : List ℕ) → position_from (λ i. i == token) j is ≡ Some k → (n : ℕ) × (k ≡ j + n) × (slice_get is n ≡ Some token)
 found_there token j k [] e = absurd (cc)
 found_there token j k (i ∷ is) e = by_test (i == token) refl e (found_there token (j + 1) k is)

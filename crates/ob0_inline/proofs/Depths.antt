@@ -1,5 +1,5 @@
--- A text that has the tokens of a tree is a module exactly if the tree isn't nested deeper than a
--- module may be.
+-- Proves when a text that has the tokens of a tree is a module: exactly if the tree isn't nested
+-- deeper than a module may be.
 use Rattle.std.proofs.Common.{◌≡◌, ℕ, ◌+◌, ◌≤◌, true, false, not, nat_le, nat_lt, encode_utf8_all, Option, Some, None, map, List, [], ◌∷◌, ◌++◌, drop, refl, sym, ap, ◌∙◌, subst, append-nil, arith}
 use Rattle.std.specs.Str.{IsUtf8, chars}
 use Rattle.std.proofs.lemmas.Bool.{leb-true, leb-false, le-ltb, lt-ltb}
@@ -16,14 +16,14 @@ use Rattle.ob0_tree.specs.Tree.{Tree, module_text, nesting, spell}
 use Rattle.ob0_parse.specs.RefusedBy.{NoneBegins}
 use Rattle.ob0_parse_descent.proofs.Unique.{same}
 
--- a module with these tokens has this tree
+-- A module with the tokens of a tree has that tree, so the tree is nested at most 100 deep.
 pub shallow_where_parsed : (s : Scanned) (t : Tree (List ℕ) module_text) → text_lexemes s ≡ spell t → (m : Parsed) → m.source ≡ s → IsParsed m → nesting t ≤ 100
 shallow_where_parsed s t spelled m source parsed =
     let there : text_lexemes s ≡ spell (named_tree_of m) = ap text_lexemes (sym source) ∙ parsed.module_of.spelled in
     let one : named_tree_of m ≡ t = (same (named_tree_of m) t [] [] tt tt (append-nil (spell (named_tree_of m)) ∙ (sym there ∙ (spelled ∙ sym (append-nil (spell t)))))).0 in
     subst (λ (u : Tree (List ℕ) module_text). nesting u ≤ 100) one parsed.module_of.shallow
 
--- if no module begins with its tokens up to some token, the tree is deeper
+-- If no module begins with the tree's tokens up to some token, the tree is nested deeper than 100.
 pub deep_where_refused : (s : Scanned) (t : Tree (List ℕ) module_text) → text_lexemes s ≡ spell t → (i : ℕ) → NoneBegins s i → nesting t ≤ 100 → ⊥
 deep_where_refused s t spelled i none low =
     let all : List (Terminal (List ℕ)) = text_lexemes s ++ (EndOfText ∷ []) in
@@ -41,7 +41,7 @@ not_shallow_is n = elim (nat_le n 100) as (λ b. nat_le n 100 ≡ b → not b �
   | false ↦ (λ e. sym (lt-ltb 100 n (omega (arith, leb-false n 100 e))))
 ] refl
 
--- the text that edits leave, or an empty text
+-- returns the text that edits leave, or an empty text if there is none
 abbrev held : Option (List ℕ) → List ℕ
 held None = []
 held (Some xs) = xs

@@ -1,5 +1,5 @@
--- Names are bound to earlier declarations: each label of a part is below the first ordinal after
--- the part.
+-- Proves that names are bound to earlier declarations: each label of a part is below the first
+-- ordinal after the part.
 use Rattle.std.proofs.Common.{ℕ, suc, ◌<◌, ◌≤◌, true, false, Option, Some, None, List, [], ◌∷◌, ◌++◌, map, sym, subst, arith}
 use Rattle.ob0_tree.specs.Tree.{Sort, Tree, block, constant, constants, declares, declares_constant, declares_constants, declares_procedure, declares_type, declares_types, declares_variable, declares_variables, end, formals, further_section, has_body, item, items, maybe, more, none, occurrences, one, procedure, section, some_formals, then_section, type_name, type_names, value_section, variable, variable_section, variables}
 use Rattle.ob0_language_names.specs.Names.{Name, as_names, same_name}
@@ -8,7 +8,7 @@ use Rattle.ob0_language_names.specs.Scopes.{Labels, Scope, after_block, after_na
 use Rattle.ob0_language_names.proofs.OccurrenceNames.{occurrences-with_names}
 use Rattle.ob0_language_names.proofs.Ordinals.{after_names-append, le-after_block, le-after_names, le-after_procedure, le-after_procedures}
 
--- labels without names
+-- labels that have only ordinals, and no names
 abbrev pub forget : {N : Type 0} → Labels N (Option ℕ)
 forget ordinal x = ordinal
 

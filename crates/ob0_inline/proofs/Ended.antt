@@ -1,5 +1,6 @@
--- The first and last token of a constant's declaration; its uses follow it.
--- The code finds the declaring token and the first semicolon after it; no token between them is a
+-- Proves which tokens are the first and the last of a constant's declaration, and that its uses
+-- follow it.
+-- The code finds the declaring token and the first semicolon after it. No token between them is a
 -- semicolon. So a constant with a value always has both (`token_known`, `end_known`).
 use Rattle.std.proofs.Common.{◌≡◌, ℕ, suc, ◌+◌, ◌-◌, Bool, true, false, cond, if◌then◌else◌, Option, Some, None, List, [], ◌∷◌, ◌++◌, drop, map, length, refl, sym, ap, ◌∙◌, subst, arith, slice_get, append_assoc}
 use Rattle.std.proofs.lemmas.Bool.{le-ltb}
@@ -43,7 +44,7 @@ use Rattle.ob0_scope_table.proofs.Declared.{module_declared, names_in}
 use Rattle.ob0_inline.proofs.TakenOut.{NoEnd, Taken, gone_module}
 use Rattle.ob0_inline.proofs.WordsLeft.{first_token, is_declaration, last_token, mark_kind, name_is_first}
 
--- the uses, by the table of ordinals
+-- Finds the uses by the table of ordinals.
 
 label_same : (o : Option ℕ) (x : Name) (d : ℕ) → same_label (as_label as_names o x) (declared d) ≡ same_ordinal o d
 label_same None x d = refl
@@ -69,13 +70,13 @@ uses_by_table r is d =
     ∙ (sym (uses_kept m.source r.ordinals d (occurrences (tree_of m)))
     ∙ ap (λ ls. map (λ (u : ℕ × Label). u.0) (filter (λ u. same_label u.1 (declared d)) (zip (occurrences (tree_of m)) ls))) (sym (bindings_by_table m r.ordinals is.numbering)))
 
--- there are as many bindings as occurrences
+-- There are as many bindings as occurrences.
 pub as_many_bindings : (r : Resolution) → IsResolution r → length r.uses ≡ length (bindings (named_tree_of r.module_read))
 as_many_bindings r is =
     let m = r.module_read in
     ap length is.occurring ∙ (sym (length-map (label_at m.source r.ordinals) (occurrences (tree_of m))) ∙ ap length (sym (bindings_by_table m r.ordinals is.numbering)))
 
--- the first `;` among tokens
+-- Finds the first `;` among tokens.
 
 not_end : (k : ℕ) (q : TokenKind) (x : Terminal ℕ) (xs : List (Terminal ℕ)) → lexeme_of k q ≡ x → NoEnd (x ∷ xs) → is_semicolon q ≡ false
 not_end k (kind.Symbol s) x xs e n = (subst (λ y. NoEnd (y ∷ xs)) (sym e) n).0
@@ -96,7 +97,7 @@ first_end text k j (t ∷ ts) (x ∷ xs) ys e n =
     ap (λ b. cond b (Some j) (position_from (λ (t : Token). is_semicolon t.kind) (j + 1) ts)) (not_end k t.kind x xs (heads e).0 n)
     ∙ (first_end text (suc k) (j + 1) ts xs ys (heads e).1 (others_no_end x xs n) ∙ ap Some (let z : j + 1 + length xs ≡ j + suc (length xs) = omega arith in z))
 
--- tokens after a prefix
+-- Dropping the tokens of a prefix leaves the tokens of the rest.
 following_front : (text : List ℕ) (k : ℕ) (ts : List Token) (front rest : List (Terminal ℕ)) → numbered_tokens k (map (read_in text) ts) ≡ front ++ rest → numbered_tokens (k + length front) (map (read_in text) (drop (length front) ts)) ≡ rest
 following_front text k ts [] rest e = ap (λ n. numbered_tokens n (map (read_in text) ts)) (let z : k + 0 ≡ k = omega arith in z) ∙ e
 following_front text k [] (x ∷ front) rest e = absurd (cc)
@@ -152,7 +153,7 @@ module _ (r : Resolution) (is : IsResolution r) (d : ℕ) (w : Value) (has_value
   pub ends_at : position_from (λ x. is_semicolon x.kind) name_token (drop name_token r.module_read.source.tokens) ≡ Some end_token
   ends_at = ends_there r.module_read d (spell (gone_module d (tree_of r.module_read))) taken
 
-  -- the entry in the table of declarations, and the result of the search after it
+  -- The table of declarations has the declaring token.
   pub token_known : token_declaring r.declarations d ≡ Some name_token
   token_known = ap (λ (xs : List ℕ). token_declaring xs d) is.declaring ∙ begins_at
 
@@ -185,7 +186,7 @@ module _ (r : Resolution) (is : IsResolution r) (c : NamedConstant) (constant : 
   pub are_uses : AreNames r.module_read.source.tokens (suc c.last) (uses_of r.module_read c.ordinal)
   are_uses = subst (λ n. AreNames r.module_read.source.tokens (suc n) (uses_of r.module_read c.ordinal)) last_is (names_at r is c.ordinal (scalar_value c.value) constant.has_value)
 
-  -- the remaining words spell the inlined module
+  -- The remaining words spell the inlined module.
   pub left_spelled : IsAlone r.module_read c.ordinal
       → map word_lexeme (changed_words (without_words c.first c.last (at_each (uses_of r.module_read c.ordinal) (value_words c.value))) 0 (words_of r.module_read.source)) ≡ spell (inlined_all r.module_read c)
   left_spelled alone =

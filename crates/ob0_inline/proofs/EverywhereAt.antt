@@ -1,5 +1,5 @@
--- The uses of a constant, and the remaining words after its value replaces them and its declaration
--- is removed.
+-- Proves which uses a constant has, and which words remain after its value replaces them and its
+-- declaration is removed.
 use Rattle.std.proofs.Common.{◌≡◌, ℕ, zero, suc, ◌+◌, ◌<◌, ◌==◌, ◌||◌, ◌&&◌, Bool, true, false, cond, Option, Some, None, List, [], ◌∷◌, map, length, refl, sym, ap, ◌∙◌, arith, slice_get, eqb-true, eq-eqb}
 use Rattle.std.specs.List.{filter}
 use Rattle.ob0_scan.specs.declared.lexeme.Token.{Token}
@@ -29,7 +29,7 @@ use Rattle.ob0_inline.proofs.TakenOut.{gone_module}
 use Rattle.ob0_inline.proofs.UsesAreIdentifiers.{AreBound, lowered, names_from, others_spelled, uses_are_identifiers, uses_ascend}
 use Rattle.ob0_inline.proofs.WordsLeft.{first_token, last_token, words_left}
 
--- the tokens that are bound to d
+-- returns the tokens that are bound to d
 abbrev pub bound_tokens : List (Option ℕ) → ℕ → List ℕ → List ℕ
 bound_tokens ordinals d is = filter (λ i. same_ordinal (ordinal_in ordinals i) d) is
 
@@ -45,7 +45,7 @@ bound_are_identifiers ts ordinals d (i ∷ is) h =
     elim (same_ordinal (ordinal_in ordinals i) d) as (λ b. AreIdentifiers ts (cond b (i ∷ bound_tokens ordinals d is) (bound_tokens ordinals d is)))
     [ true ↦ (h.0, bound_are_identifiers ts ordinals d is h.1) | false ↦ bound_are_identifiers ts ordinals d is h.1 ]
 
--- all of them are after a token
+-- If the tokens that are bound to d are after a token, they ascend from there.
 from_there : (ordinals : List (Option ℕ)) (d low high last : ℕ) (is : List ℕ) → Ascending low (bound_tokens ordinals d is) high → last < high → ((j i : ℕ) → slice_get is j ≡ Some i → ordinal_in ordinals i ≡ Some d → last < i)
     → Ascending (suc last) (bound_tokens ordinals d is) high
 from_there ordinals d low high last [] a inside h = omega (arith, inside)
@@ -62,7 +62,7 @@ are_bound r d (i ∷ is) h =
       | false ↦ (λ e. are_bound r d is (λ j x f. h (suc j) x f))
     ]) refl
 
--- a token of the list is among the tokens that are bound to d exactly if it is bound to d
+-- A token of the list is among the tokens that are bound to d exactly if it is bound to d.
 among_bound : (ordinals : List (Option ℕ)) (d i : ℕ) (is : List ℕ) → is_among i (bound_tokens ordinals d is) ≡ (same_ordinal (ordinal_in ordinals i) d && is_among i is)
 among_bound ordinals d i [] = none (same_ordinal (ordinal_in ordinals i) d)
   where
@@ -102,12 +102,12 @@ agree r is d j i e =
     and_true false = refl
 
 module _ (r : Resolution) (is : IsResolution r) (d : ℕ) (w : Value) (has_value : value_of_constant (named_tree_of r.module_read) d ≡ Some w) (spelled : spell (tree_of r.module_read) ≡ numbered_tokens 0 (words_of r.module_read.source)) where
-  -- the declaration of the constant
+  -- the places of the constant's declaration and uses among the module's tokens
   abbrev pub late_here : Late d 7 (names_in (module_block (tree_of r.module_read))) (numbered_tokens 0 (words_of r.module_read.source)) (spell (gone_module d (tree_of r.module_read))) (occurrences (tree_of r.module_read))
       (map (ordinal_in r.ordinals) (occurrences (tree_of r.module_read)))
   late_here = late_of r is d w has_value spelled
 
-  -- its uses are names after it, in text order
+  -- The uses are names after the declaration, in text order.
   pub uses_are_names : last_token late_here.taken < length r.module_read.source.tokens → AreNames r.module_read.source.tokens (suc (last_token late_here.taken)) (bound_tokens r.ordinals d r.uses)
   uses_are_names inside =
       let ts = r.module_read.source.tokens in
@@ -116,8 +116,8 @@ module _ (r : Resolution) (is : IsResolution r) (d : ℕ) (w : Value) (has_value
       (λ j i e o. uses_following r d (names_in (module_block (tree_of r.module_read))) (spell (gone_module d (tree_of r.module_read))) late_here j i (ap (λ us. slice_get us j) (sym is.occurring) ∙ e) o))
       (bound_are_identifiers ts r.ordinals d r.uses (uses_are_identifiers r is))
 
-  -- the remaining words spell the module with the factor in place of all uses, and without the
-  -- declaration
+  -- The remaining words spell the module with the factor in place of all uses, and without the
+  -- declaration.
   pub words_everywhere : (v : Tree Name factor) (vs : List Word) → map word_lexeme vs ≡ spell v → IsAlone r.module_read d
       → AreNames r.module_read.source.tokens (suc (last_token late_here.taken)) (bound_tokens r.ordinals d r.uses)
       → map word_lexeme (changed_words (without_words (first_token late_here.taken) (last_token late_here.taken) (at_each (bound_tokens r.ordinals d r.uses) vs)) 0 (words_of r.module_read.source))

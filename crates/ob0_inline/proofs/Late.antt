@@ -1,4 +1,4 @@
--- Occurrences that are bound to a constant follow its declaration.
+-- Proves that occurrences that are bound to a constant follow its declaration.
 -- If the constant has a value, the walk shows `Taken`, together with the occurrences and their
 -- bindings.
 use Rattle.std.proofs.Common.{◌≡◌, ◌⊎◌, inl, inr, ℕ, suc, ◌+◌, ◌<◌, ◌≤◌, ◌==◌, ◌||◌, Bool, true, false, if◌then◌else◌, nat_lt, Option, Some, None, List, [], ◌∷◌, ◌++◌, length, refl, sym, ap, ◌∙◌, subst, arith, append_assoc, append-nil, length-append, eqb-true, eq-eqb, option_and_then, slice_get}
@@ -75,8 +75,8 @@ occurrences_in t =
     subst (λ l. AllIn l (lexeme_names (spell t))) (looked_up-occurrences role.Declaring (λ n xs. refl) t)
     (subst (AllIn (looked_up_only (identifiers role.Declaring t))) (leaves_spelled role.Declaring t) (looked_up_in (identifiers role.Declaring t)))
 
--- States that a declaration was removed. Occurrences up to its end are bound to earlier
--- declarations, and the others follow it.
+-- States that a declaration was removed. The occurrences up to its end are bound to earlier
+-- declarations, and the other occurrences follow it.
 pub record Late (d k : ℕ) (labels : List ℕ) (whole left : List (Terminal ℕ)) (occ : List ℕ) (bound : List (Option ℕ)) : Type 0 where
   pub taken : Taken d k labels whole left
   pub front : List ℕ
@@ -89,7 +89,7 @@ pub record Late (d k : ℕ) (labels : List ℕ) (whole left : List (Terminal ℕ
   pub low : AllLow d front_bound
   pub among : AllIn following (lexeme_names taken.after)
 
--- the same for equal tokens
+-- `Late` holds of equal tokens.
 pub late_move : (d k : ℕ) (labels : List ℕ) (w w' l l' : List (Terminal ℕ)) (occ : List ℕ) (bound : List (Option ℕ)) → w' ≡ w → l' ≡ l → Late d k labels w l occ bound → Late d k labels w' l' occ bound
 late_move d k labels w w' l l' occ bound e f h =
     let t = h.taken in
@@ -106,7 +106,7 @@ late_move d k labels w w' l l' occ bound e f h =
       among = h.among;
     }
 
--- the same among more declarations
+-- `Late` holds among more declarations, if the declaration is the same.
 late_among : (d j k : ℕ) (labels others : List ℕ) (w l : List (Terminal ℕ)) (occ : List ℕ) (bound : List (Option ℕ)) (h : Late d k labels w l occ bound) (place : ℕ) → d ≡ j + place → slice_get others place ≡ slice_get labels h.taken.place
     → Late d j others w l occ bound
 late_among d j k labels others w l occ bound h place e g = record {
@@ -122,7 +122,7 @@ late_among d j k labels others w l occ bound h place e g = record {
   among = h.among;
 }
 
--- the same after other tokens and other occurrences
+-- `Late` holds after other tokens and occurrences that are bound to earlier declarations.
 late_before : (d k : ℕ) (labels : List ℕ) (zs w l : List (Terminal ℕ)) (zo occ : List ℕ) (zb bound : List (Option ℕ)) → length zb ≡ length zo → AllLow d zb → Late d k labels w l occ bound
     → Late d k labels (zs ++ w) (zs ++ l) (zo ++ occ) (zb ++ bound)
 late_before d k labels zs w l zo occ zb bound n g h = record {
@@ -138,7 +138,7 @@ late_before d k labels zs w l zo occ zb bound n g h = record {
   among = h.among;
 }
 
--- the same before other tokens and other occurrences
+-- `Late` holds before other tokens and their occurrences.
 late_following : (d k : ℕ) (labels : List ℕ) (w l zs : List (Terminal ℕ)) (occ zo : List ℕ) (bound zb : List (Option ℕ)) → AllIn zo (lexeme_names zs) → Late d k labels w l occ bound
     → Late d k labels (w ++ zs) (l ++ zs) (occ ++ zo) (bound ++ zb)
 late_following d k labels w l zs occ zo bound zb g h = record {
@@ -254,7 +254,8 @@ module _ (f : ℕ → Name) (g : ℕ → ℕ) (d : ℕ) (w : Value) where
   joined_in is js xs ys h q =
       subst (AllIn (is ++ js)) (sym (lexeme_names-append xs ys)) (all_joined is js (lexeme_names xs ++ lexeme_names ys) (all_first is (lexeme_names xs) (lexeme_names ys) h) (all_second js (lexeme_names xs) (lexeme_names ys) q))
 
-  -- the same for a block, from one of its parts; n is the ordinal of its first declaration
+  -- `Late` holds of a block if it holds of one of its parts. k is the ordinal of its first
+  -- declaration.
   late_by_section : (cs : Tree ℕ (maybe constants)) (ts : Tree ℕ (maybe type_names)) (vs : Tree ℕ (maybe variables)) (ps : Tree ℕ (items procedure)) (statements : Tree ℕ (maybe body)) (k : ℕ) (lc rest_bound ls : List (Option ℕ))
       → d < first_type k (has_body (declares cs ts vs ps) statements) → Late d k (constant_names (section_constants cs)) (spell cs) (spell (gone_section d k cs)) (occurrences cs) lc
       → Late d k (names_in (has_body (declares cs ts vs ps) statements)) (spell (has_body (declares cs ts vs ps) statements)) (spell (gone_block d k (has_body (declares cs ts vs ps) statements)))

@@ -1,4 +1,5 @@
--- After a value replaces identifiers of a text, its words are the words of the inlined module.
+-- Proves that after a value replaces identifiers of a text, its words are the words of the inlined
+-- module.
 use Rattle.std.specs.Prelude.{negsuc}
 use Rattle.std.proofs.Common.{◌≡◌, ℕ, suc, ◌+◌, ◌≤◌, Bool, true, false, if◌then◌else◌, nat_lt, List, [], ◌∷◌, ◌++◌, map, refl, ap, ◌∙◌, arith}
 use Rattle.std.proofs.lemmas.List.{append_cancel_right}
@@ -27,11 +28,11 @@ lexemes_placed text i (t ∷ ts) =
     let rest = ap (λ n. lexemes_from n ts) next ∙ lexemes_placed text (suc i) ts in
     λ j. lexeme_of i t.kind ∷ rest j
 
--- the words with their indexes spell the tree over the tokens' indexes
+-- The words with their indexes spell the tree over the tokens' indexes.
 pub spelled_by_words : (m : Parsed) → IsParsed m → spell (tree_of m) ≡ numbered_tokens 0 (words_of m.source)
 spelled_by_words m parsed = append_cancel_right (spell (tree_of m)) (numbered_tokens 0 (words_of m.source)) (EndOfText ∷ []) (parsed.places ∙ lexemes_placed m.source.text 0 m.source.tokens)
 
--- both cases of a condition: the sign, or whether the number is the least one
+-- A conditional spells its tree if both of its cases spell theirs.
 either_spelled : (b : Bool) (vs ws : List Word) (v w : Tree (List ℕ) factor) → map word_lexeme vs ≡ spell v → map word_lexeme ws ≡ spell w → map word_lexeme (if b then vs else ws) ≡ spell (if b then v else w)
 either_spelled true vs ws v w e f = e
 either_spelled false vs ws v w e f = f
@@ -40,7 +41,7 @@ pub value_spelled : (value : Scalar) → map word_lexeme (value_words value) ≡
 value_spelled (scalar.Number (negsuc n)) = either_spelled (nat_lt n 2147483647) _ _ _ _ refl refl
 value_spelled _ = refl
 
--- if the tree isn't too deep, edits that leave words that spell it leave its text
+-- If the tree isn't too deep, edits that leave words that spell it leave its text.
 pub leaves_module : (unit : counting.Unit) (text : List ℕ) (edits : List Edit) (ws : List Word) (t : Tree (List ℕ) module_text)
     → LeavesWords unit text edits ws → map word_lexeme ws ≡ spell t → nesting t ≤ 100 → LeavesModule unit text edits t
 leaves_module unit text edits ws t leaves spelled low = record {

@@ -1,4 +1,4 @@
--- The occurrence at a token, found by binary search: tokens of occurrences ascend.
+-- Proves that binary search finds the occurrence at a token, since tokens of occurrences ascend.
 -- Binary search finds the same as linear search (`halved`). The occurrence is looked up last, when
 -- the name is known to be a constant's.
 use Rattle.std.proofs.Common.{◌≡◌, ◌≢◌, ℕ, zero, suc, ◌+◌, ◌<◌, ◌≤◌, ◌==◌, Bool, true, false, cond, Some, None, Result, Ok, Err, List, [], ◌∷◌, length, get_or, refl, sym, ap, ◌∙◌, eq-eqb, arith}
@@ -12,7 +12,7 @@ use Rattle.std.proofs.lemmas.List.Sorted.{searched}
 use Rattle.ob0_tree.specs.Order.{Ascending}
 use Rattle.ob0_inline.proofs.UsesAreIdentifiers.{not_equal}
 
--- ascending numbers: each is at least the lower bound, and at most every later one
+-- Each of some ascending numbers is at least the lower bound.
 at_least : (low high : ℕ) (is : List ℕ) (k : ℕ) → Ascending low is high → k < length is → low ≤ get_or is k 0
 at_least low high [] k a less = absurd (omega (arith, less))
 at_least low high (i ∷ is) zero a less = a.0
@@ -25,7 +25,7 @@ rises low high (i ∷ is) a zero (suc k) le less = let more = at_least (i + 1) h
 rises low high (i ∷ is) a (suc j) zero le less = absurd (omega (arith, le))
 rises low high (i ∷ is) a (suc j) (suc k) le less = rises (i + 1) high is a.1 j k (omega (arith, le)) (omega (arith, less))
 
--- a number among them isn't at an earlier place as well
+-- A number among ascending ones isn't at an earlier index as well.
 is_first : (low high : ℕ) (is : List ℕ) (token j k : ℕ) → Ascending low is high → k < length is → get_or is k 0 ≡ token → position_from (λ i. i == token) j is ≡ Some (j + k)
 is_first low high [] token j k a less e = absurd (omega (arith, less))
 is_first low high (i ∷ is) token j zero a less e =
@@ -42,7 +42,7 @@ is_nowhere (i ∷ is) token j h =
     ap (λ b. cond b (Some j) (position_from (λ i. i == token) (j + 1) is)) (not_equal i token (h 0 (omega arith)))
     ∙ is_nowhere is token (j + 1) (λ k less. h (suc k) (omega (arith, less)))
 
--- if all numbers before a place are less and all others are greater, no number is equal
+-- If all numbers before an index are less and all others are greater, no number is equal.
 none_equal : (is : List ℕ) (token n : ℕ) → ((k : ℕ) → k < n → get_or is k 0 < token) → ((k : ℕ) → n ≤ k → k < length is → token < get_or is k 0) → (k : ℕ) → k < length is → get_or is k 0 ≢ token
 none_equal is token n below above k less e = by_side (nat_lt k n) refl
   where
@@ -50,7 +50,7 @@ none_equal is token n below above k less e = by_side (nat_lt k n) refl
     by_side true q = let under = below k (ltb-true k n q) in omega (arith, under, e)
     by_side false q = let over = above k (ltb-false k n q) less in omega (arith, over, e)
 
--- binary search finds the same as linear search
+-- Binary search finds the same as linear search.
 pub halved : (high : ℕ) (is : List ℕ) (token : ℕ) (r : Result ℕ ℕ) → Ascending 0 is high → IsBinarySearchResult (λ i. nat_cmp i token) is r → result_ok r ≡ position_from (λ i. i == token) 0 is
 halved high is token (Ok k) a h =
     let found = searched is token (Ok k) h (rises 0 high is a) in

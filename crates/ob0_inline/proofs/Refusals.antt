@@ -1,4 +1,4 @@
--- The facts about edits, or about their refusal, and the first refusal.
+-- Proves which refusal is the first, from the facts about edits or about their refusal.
 use Rattle.std.proofs.Common.{◌≡◌, ◌⊎◌, ℕ, ◌<◌, ◌≤◌, if◌then◌else◌, nat_lt, Option, Some, List, length, sym, ap, ◌∙◌, inl, inr}
 use Rattle.std.proofs.lemmas.Bool.{le-ltb, lt-ltb}
 use Rattle.ob0_scan.specs.Scanned.{max_text}
@@ -9,8 +9,8 @@ use Rattle.ob0_text.specs.declared.refusals.EditRefusal.TheVariants.{Memory, Too
 use Rattle.ob0_tree.specs.Tree.{Tree, module_text, nesting}
 use Rattle.ob0_inline.specs.Inlined.{LeavesModule, first_refusal}
 
--- states that the edits leave this text, and the text of the module if its names are factors by
--- themselves
+-- States that the edits leave this text. If the constant's names are factors by themselves, it is a
+-- text of the module.
 pub record MakeText (alone : Type 0) (new : List ℕ) (t : Tree (List ℕ) module_text) (unit : counting.Unit) (text : List ℕ) (edits : List Edit) : Type 0 where
   pub leaves : alone → LeavesModule unit text edits t
   pub short : length new ≤ max_text

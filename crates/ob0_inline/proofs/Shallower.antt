@@ -1,4 +1,4 @@
--- The inlined module is nested at most one level deeper than the module.
+-- Proves that the inlined module is nested at most one level deeper than the module.
 -- So the new text is parsed only if the module is nested as deep as a module may be. Removing a
 -- declaration makes no tree deeper.
 use Rattle.std.proofs.Common.{◌≡◌, ℕ, suc, ◌+◌, ◌≤◌, ◌==◌, Bool, true, false, length, if◌then◌else◌, nat_lt, arith}
@@ -30,7 +30,7 @@ module _ (uses : Uses) (v : Tree Name factor) where
   name_low x true = omega arith
   name_low x false = omega arith
 
-  -- replacing names by a factor makes a tree deeper by at most the factor's nesting
+  -- Replacing names by a factor makes a tree deeper by at most the factor's nesting.
   inlined_low : {s : Sort} (k : ℕ) (t : Tree Name s) → nesting (inline_in uses v k t) ≤ nesting t + nesting v
   inlined_low k (one t) = omega (arith, inlined_low k t)
   inlined_low k (more t u) = omega (arith, inlined_low k t, inlined_low (k + length (occurrences t)) u)
@@ -84,7 +84,7 @@ inlined_shallow m uses value =
     let low = value_shallow value in
     omega (arith, deeper, same, low)
 
--- removing a declaration makes a tree no deeper
+-- Removing a declaration makes no tree deeper.
 constants_low : (d k : ℕ) (cs : Tree Name (items constant)) → nesting (without d k cs) ≤ nesting cs
 constants_low d k end = omega arith
 constants_low d k (more c cs) =

@@ -1,4 +1,4 @@
--- The tokens of a tree in which a factor replaces uses: the tokens of the tree, with the factor's
+-- Proves how a tree in which a factor replaces uses is spelled: as the tree, with the factor's
 -- tokens in place of the uses.
 -- The tree is over the indexes of tokens. A name is replaced exactly if it is an occurrence that is
 -- a use (`Rest`). Names that aren't looked up aren't replaced (`others`), nor are names that aren't
@@ -25,7 +25,8 @@ use Rattle.ob0_scope_table.specs.Resolution.{ordinal_in}
 use Rattle.ob0_scope.proofs.SeenInPlaces.{AllMarked, IsMarked}
 use Rattle.ob0_inline.proofs.TakenOut.{first_procedure_count, formals_count, gone_block, gone_constants, gone_module, gone_procedure, gone_procedures, gone_section, kept_constants, procedure_count}
 
--- states that exactly the used occurrences are replaced, the first of which has the number k
+-- holds if exactly the used occurrences are replaced; the first occurrence of the list has the
+-- number k
 abbrev pub Agrees : (ℕ → Bool) → Uses → ℕ → List ℕ → Type 0
 Agrees gives uses k [] = Unit {0}
 Agrees gives uses k (i ∷ is) = (gives i ≡ uses k) × Agrees gives uses (suc k) is
@@ -35,7 +36,7 @@ agrees_each gives uses k [] h = tt
 agrees_each gives uses k (i ∷ is) h =
     (subst (λ n. gives i ≡ uses n) (add-zero k) (h 0 i refl), agrees_each gives uses (suc k) is (λ j x e. subst (λ n. gives x ≡ uses n) (omega arith) (h (suc j) x e)))
 
--- states that no name has the label of this declaration
+-- holds if no name has the label of this declaration
 abbrev pub NoneIs : ℕ → List Label → Type 0
 NoneIs d [] = Unit {0}
 NoneIs d (l ∷ ls) = (l ≢ declared d) × NoneIs d ls
@@ -62,8 +63,8 @@ module _ (gives : ℕ → Bool) (uses : Uses) (v : Tree naming.Name factor) (f :
   abbrev put : Terminal ℕ → List (Terminal naming.Name)
   put = replaced gives (spell v) f g
 
-  -- the facts about occurrences, the first of which has the number k, about identifiers, and about
-  -- names that aren't factors by themselves
+  -- holds if the facts are true about occurrences (the first has the number k), about identifiers,
+  -- and about names that aren't factors by themselves
   abbrev Rest : ℕ → List ℕ → List (Role × ℕ) → List Label → Type 0
   Rest k os is es = Agrees gives uses k os × AllMarked table is × NoneIs d es
 
@@ -85,7 +86,7 @@ module _ (gives : ℕ → Bool) (uses : Uses) (v : Tree naming.Name factor) (f :
       → Rest k (occurrences t ++ occurrences u) (identifiers r t ++ identifiers r u) (names_elsewhere (mapped label g t) ++ names_elsewhere (mapped label g u)) → Fits k r t × Fits (past k t) r u
   both k r t u h = cut k r t (occurrences u) (identifiers r u) (names_elsewhere (mapped label g u)) h
 
-  -- states that names in this role, such as declared names or fields, aren't replaced
+  -- holds if names in this role, such as declared names or fields, aren't replaced
   abbrev pub Plain : Role → Type 0
   Plain r = (i : ℕ) → IsMarked table r i → gives i ≡ false
 
@@ -104,7 +105,8 @@ module _ (gives : ℕ → Bool) (uses : Uses) (v : Tree naming.Name factor) (f :
   alone x true e = sym (append-nil (spell v)) ∙ ap (λ b. (if b then spell v else Name (f x) ∷ []) ++ []) (sym e)
   alone x false e = ap (λ b. (if b then spell v else Name (f x) ∷ []) ++ []) (sym e)
 
-  -- r is the role of the names in a list
+  -- A tree with the factor in place of the uses is spelled like the tree. r is the role of the
+  -- names in a list.
   pub spelled : {s : Sort} (k : ℕ) (r : Role) → Plain r → (t : Tree ℕ s) → Fits k r t → spell (inline_in uses v k (mapped f g t)) ≡ flat_map put (spell t)
   spelled k r plain (one t) h = simp (spelled k r plain t h)
   spelled k r plain (more t u) h = let s = both k r t u h in simp (flat_map-append, spelled k r plain t s.0, spelled (past k t) r plain u s.1)
@@ -172,7 +174,8 @@ module _ (gives : ℕ → Bool) (uses : Uses) (v : Tree naming.Name factor) (f :
   joined : {xs' ys' : List (Terminal naming.Name)} (xs ys : List (Terminal ℕ)) → xs' ≡ flat_map put xs → ys' ≡ flat_map put ys → xs' ++ ys' ≡ flat_map put (xs ++ ys)
   joined xs ys p q = (λ i. p i ++ q i) ∙ sym (flat_map-append put xs ys)
 
-  -- without the declaration of c; n is the ordinal of a part's first declaration
+  -- The same tokens spell constants without the declaration of c. n is the ordinal of the part's
+  -- first declaration.
   constants_spelled : (c n k : ℕ) (cs : Tree ℕ (items constant)) → Fits k role.Declaring cs → spell (edited_constants (everywhere uses v c) k n (mapped f g cs)) ≡ flat_map put (spell (gone_constants c n cs))
   constants_spelled c n k end h = refl
   constants_spelled c n k (more (declares_constant x t) cs) h =

@@ -1,5 +1,5 @@
--- A tree from which the declaration of a constant is removed: the rest, over any names, and the
--- removed tokens.
+-- Defines a tree from which the declaration of a constant is removed: the rest, over any names, and
+-- the removed tokens.
 -- `gone_module` is the module without the declaration, over any names. `Taken` splits the tokens of
 -- the tree into three parts: the tokens up to CONST or a semicolon, the declaration from its name
 -- to its semicolon, and the rest. The declaration contains no other semicolon.
@@ -25,7 +25,7 @@ use Rattle.ob0_language_names.specs.Scopes.{after_block, after_names, after_proc
 use Rattle.ob0_types_check.proofs.DeclaredNames.{after_block-mapped, after_names-map, after_procedure-mapped, formals-names}
 use Rattle.ob0_language_names.proofs.Ordinals.{le-after_names, le-after_procedure, le-after_procedures}
 
--- each part of a module without a declaration, over any names
+-- returns constants without the declaration with ordinal d, over any names
 abbrev pub gone_constants : {N : Type 0} → ℕ → ℕ → Tree N (items constant) → Tree N (items constant)
 gone_constants d k end = end
 gone_constants d k (more c cs) = if k == d then cs else more c (gone_constants d (suc k) cs)
@@ -49,8 +49,8 @@ abbrev mutual
 abbrev pub gone_module : {N : Type 0} → ℕ → Tree N module_text → Tree N module_text
 gone_module d (is_module x b closing) = is_module x (gone_block d 7 b) closing
 
--- a tree declares as much with other names; its sections are counted like the sections of a block
--- without other parts
+-- A tree declares as much with other names. Its sections are counted like the sections of a block
+-- without other parts.
 module _ (f : ℕ → Name) (g : ℕ → ℕ) where
   pub formals_count : (k : ℕ) (fs : Tree ℕ (maybe formals)) → after_names k (formal_names (formal_sections (mapped f g fs))) ≡ after_names k (formal_names (formal_sections fs))
   formals_count k fs = ap (after_names k) (formals-names f g fs) ∙ after_names-map f k (formal_names (formal_sections fs))
@@ -64,7 +64,7 @@ module _ (f : ℕ → Name) (g : ℕ → ℕ) where
   pub procedure_count : (k : ℕ) (p : Tree ℕ (item procedure)) → after_procedure k (mapped f g p) ≡ after_procedure k p
   procedure_count k p = after_procedure-mapped f g k k refl p
 
--- no `;` is among these tokens
+-- true for a `;`
 abbrev pub is_end : TokenKind → Bool
 is_end (kind.Symbol s) = elim s [ symbol.Semicolon ↦ true | _ ↦ false ]
 is_end _ = false
@@ -129,7 +129,7 @@ put_following d k labels xs ys zs t =
       left_is = ap (λ l. l ++ zs) t.left_is ∙ append_assoc front t.after zs;
     }
 
--- the same among more names
+-- `Taken` holds among more names, if the name is the same.
 abbrev pub among_others : (d j k : ℕ) (labels others : List ℕ) (xs ys : List (Terminal ℕ)) (t : Taken d k labels xs ys) (place : ℕ) → d ≡ j + place → slice_get others place ≡ slice_get labels t.place → Taken d j others xs ys
 among_others d j k labels others xs ys t place e h = record {
   place = place;
@@ -155,7 +155,7 @@ pub get_later : (xs ys : List ℕ) (j : ℕ) → slice_get (xs ++ ys) (length xs
 get_later [] ys j = ap (slice_get ys) (let e : 0 + j ≡ j = omega arith in e)
 get_later (x ∷ xs) ys j = ap (slice_get (x ∷ (xs ++ ys))) (let e : suc (length xs) + j ≡ suc (length xs + j) = omega arith in e) ∙ get_later xs ys j
 
--- removing a declaration that doesn't exist leaves the tree unchanged: no ordinal in the range is d
+-- holds if no ordinal in a range is d, so removing that declaration changes nothing there
 abbrev pub Outside : ℕ → ℕ → ℕ → Type 0
 Outside d k after = (j : ℕ) → k ≤ j → j < after → j ≢ d
 
@@ -196,7 +196,7 @@ mutual
       let up = le-after_names k (formal_names (formal_sections fs)) in
       λ i. declares_procedure x fs (kept_block d (after_names k (formal_names (formal_sections fs))) b (λ j l u. h j (omega (arith, l, up)) u) i) closing
 
--- an expression has no `;`
+-- Two lists without `;` have none together.
 no_end_append : {N : Type 0} (xs ys : List (Terminal N)) → NoEnd xs → NoEnd ys → NoEnd (xs ++ ys)
 no_end_append [] ys p q = q
 no_end_append (Mark k ∷ xs) ys p q = (p.0, no_end_append xs ys p.1 q)
@@ -250,7 +250,7 @@ mutual
   path_no_end (more (index e) rest) =
       (refl, no_end_append (spell e ++ (Mark (kind.Symbol symbol.RightBracket) ∷ [])) (spell rest) (no_end_append (spell e) (Mark (kind.Symbol symbol.RightBracket) ∷ []) (expression_no_end e) (refl, tt)) (path_no_end rest))
 
--- a constant that has a value has a declaration
+-- A constant that has a value has a declaration.
 
 pub gone_here : (d k : ℕ) (c : Tree ℕ (item constant)) (cs : Tree ℕ (items constant)) (b : Bool) → (k == d) ≡ b → gone_constants d k (more c cs) ≡ (if b then cs else more c (gone_constants d (suc k) cs))
 gone_here d k c cs b e = ap (λ v. if v then cs else more c (gone_constants d (suc k) cs)) e

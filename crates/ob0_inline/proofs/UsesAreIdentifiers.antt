@@ -1,5 +1,5 @@
--- The tokens of occurrences that are bound to a constant are names in text order. With other words
--- in their place, the tokens are the tokens of the inlined tree.
+-- Proves that the tokens of occurrences that are bound to a constant are names in text order. With
+-- other words in their place, the tokens are the tokens of the inlined tree.
 use Rattle.std.proofs.Common.{◌≡◌, ◌≢◌, ℕ, zero, suc, ◌+◌, ◌≤◌, ◌==◌, ◌||◌, Bool, true, false, Option, Some, None, List, [], ◌∷◌, map, length, refl, sym, ap, ◌∙◌, subst, arith, slice_get, eqb-true, eq-eqb, true≢false}
 use Rattle.std.specs.List.{All, flat_map}
 use Rattle.std.proofs.lemmas.List.Elements.{All-head, All-tail}
@@ -30,7 +30,7 @@ use Rattle.ob0_inline.specs.Everywhere.{IsAlone}
 use Rattle.ob0_inline.proofs.Spelled.{Agrees, NoneIs, agrees_each, module_spelled, spelled}
 use Rattle.ob0_inline.proofs.TakenOut.{gone_module}
 
--- identifiers in text order are names in text order
+-- Identifiers in text order are names in text order.
 pub names_from : (ts : List Token) (low high : ℕ) (is : List ℕ) → Ascending low is high → AreIdentifiers ts is → AreNames ts low is
 names_from ts low high [] a h = tt
 names_from ts low high (i ∷ is) a h =
@@ -41,7 +41,7 @@ pub lowered : (low higher high : ℕ) (xs : List ℕ) → low ≤ higher → Asc
 lowered low higher high [] le a = omega (arith, le, a)
 lowered low higher high (x ∷ xs) le a = (omega (arith, le, a.0), a.1)
 
--- the identifiers of a module that are looked up
+-- The identifiers of a module that are looked up ascend.
 looked_up_ascend : (low high : ℕ) (xs : List (Role × ℕ)) → Ascending low (names_only xs) high → Ascending low (looked_up_only xs) high
 looked_up_ascend low high [] a = a
 looked_up_ascend low high ((role.LookedUp, i) ∷ xs) a = (a.0, looked_up_ascend (i + 1) high xs a.1)
@@ -71,7 +71,7 @@ one_identifier ts [] k i h e = absurd (cc)
 one_identifier ts (x ∷ is) zero i h e = subst (IsIdentifierToken ts) (some_inverse e) h.0
 one_identifier ts (x ∷ is) (suc k) i h e = one_identifier ts is k i h.1 e
 
--- states that the places are tokens of occurrences that are bound to d
+-- holds if the places are tokens of occurrences that are bound to d
 abbrev pub AreBound : Resolution → ℕ → List ℕ → Type 0
 AreBound r d [] = Unit {0}
 AreBound r d (p ∷ ps) = (((k : ℕ) × (slice_get r.uses k ≡ Some p)) × (ordinal_in r.ordinals p ≡ Some d)) × AreBound r d ps
@@ -82,7 +82,7 @@ in_table table ((role.LookedUp, x) ∷ xs) zero i a e = ap (ordinal_in table) (s
 in_table table ((role.LookedUp, x) ∷ xs) (suc k) i a e = in_table table xs k i a.1 e
 in_table table ((_, x) ∷ xs) k i a e = in_table table xs k i a.1 e
 
--- a token among the places is an occurrence's token, and is bound to d
+-- states that a token is an occurrence's token, and is bound to d
 record AtBound (r : Resolution) (d i : ℕ) : Type 0 where
   occurs : ordinal_in (occurrence_table r) i ≡ Some 0
   bound : ordinal_in r.ordinals i ≡ Some d
@@ -109,7 +109,7 @@ none_is : (d : ℕ) (ls : List Label) → All (λ l. l ≢ declared d) ls → No
 none_is d [] a = tt
 none_is d (l ∷ ls) a = (All-head (λ (m : Label). m ≢ declared d) l ls a, none_is d ls (All-tail (λ (m : Label). m ≢ declared d) l ls a))
 
--- the words of a text and its tokens
+-- A text's words have the texts of its tokens.
 word_text : (text : List ℕ) (ts : List Token) (k : ℕ) → text_of_word (map (read_in text) ts) k ≡ leaf.text_in text (slice_get ts k)
 word_text text (t ∷ ts) (suc k) = word_text text ts k
 word_text text _ _ = refl
@@ -118,8 +118,8 @@ word_number : (text : List ℕ) (ts : List Token) (k : ℕ) → number_at (map (
 word_number text (t ∷ ts) (suc k) = word_number text ts k
 word_number text _ _ = refl
 
--- If words replace the uses of a constant, and the uses are factors by themselves, the tokens are a
--- tree's. It is the tree in which these words' factor replaces the uses.
+-- If words replace the uses of a constant, and the uses are factors by themselves, the tokens spell
+-- a tree. It is the tree in which the factor of these words replaces the uses.
 module _ (r : Resolution) (is : IsResolution r) (d : ℕ) (v : Tree Name factor) (places : List ℕ) (bound : AreBound r d places) (uses : Uses) (agree : (j i : ℕ) → slice_get r.uses j ≡ Some i → is_among i places ≡ uses j)
     (alone : IsAlone r.module_read d) (vs : List Word) (same : map word_lexeme vs ≡ spell v) where
   abbrev gives : ℕ → Bool
@@ -150,14 +150,14 @@ module _ (r : Resolution) (is : IsResolution r) (d : ℕ) (v : Tree Name factor)
       puts (spell (tree_of m))
       ∙ sym (spelled gives uses v (leaf.text_at m.source) (leaf.value_at m.source) (occurrence_table r) (label_at m.source r.ordinals) d others apart 0 role.Declaring others (tree_of m) (uses_agree, uses_reported r is, none_elsewhere))
 
-  -- the same without the declaration
+  -- Without the declaration, the tokens also spell a tree.
   pub others_spelled : flat_map (put r.module_read.source places vs) (spell (gone_module d (tree_of r.module_read))) ≡ spell (module_without d (inline_in uses v 0 (named_tree_of r.module_read)))
   others_spelled =
       let m = r.module_read in
       puts (spell (gone_module d (tree_of m)))
       ∙ sym (module_spelled gives uses v (leaf.text_at m.source) (leaf.value_at m.source) (occurrence_table r) (label_at m.source r.ordinals) d others apart d (tree_of m) (uses_agree, uses_reported r is, none_elsewhere))
 
--- tokens of occurrences ascend, so each belongs to one occurrence
+-- Tokens of occurrences ascend, so each is at least the lower bound.
 pub above : (low high : ℕ) (is : List ℕ) (j i : ℕ) → Ascending low is high → slice_get is j ≡ Some i → low ≤ i
 above low high [] j i a e = absurd (cc)
 above low high (x ∷ is) zero i a e = subst (λ n. low ≤ n) (some_inverse e) a.0

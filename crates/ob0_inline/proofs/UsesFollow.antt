@@ -1,4 +1,4 @@
--- Each use of a constant follows its declaration.
+-- Proves that each use of a constant follows its declaration.
 use Rattle.std.proofs.Common.{◌≡◌, ℕ, zero, suc, ◌+◌, ◌<◌, ◌≤◌, ◌==◌, ◌||◌, Bool, true, false, Option, Some, None, List, [], ◌∷◌, ◌++◌, map, length, refl, sym, ap, ◌∙◌, subst, arith, append_assoc, length-append, eqb-true, slice_get, true≢false}
 use Rattle.ob0_scan.specs.declared.lexeme.Symbol.TheVariants as symbol
 use Rattle.ob0_scan.specs.declared.lexeme.TokenKind.{TokenKind}
@@ -28,7 +28,7 @@ use Rattle.ob0_scope_table.proofs.Declared.{names_in}
 use Rattle.ob0_inline.proofs.TakenOut.{Taken, gone_module}
 use Rattle.ob0_inline.proofs.WordsLeft.{cut_words, last_token}
 
--- the bindings of the occurrences, by the table
+-- The bindings of the occurrences are the entries of the table.
 bound_by_table : (r : Resolution) → IsResolution r → occurrences (relabelled as_names forget (named_tree_of r.module_read)) ≡ map (ordinal_in r.ordinals) (occurrences (tree_of r.module_read))
 bound_by_table r is =
     let m = r.module_read in
@@ -36,7 +36,7 @@ bound_by_table r is =
     ap occurrences (relabelled-mapped as_names first with_ordinal (named_tree_of m) ∙ (ap (mapped first (λ n. n)) is.binding ∙ mapped-mapped first (bound_at m.source r.ordinals) (leaf.value_at m.source) (tree_of m)))
     ∙ occurrences-mapped (ordinal_in r.ordinals) (leaf.value_at m.source) (tree_of m)
 
--- a module's tokens without the declaration, if the constant has a value
+-- If the constant has a value, the module's tokens are split by its declaration.
 pub late_of : (r : Resolution) → IsResolution r → (d : ℕ) (w : Value) → value_of_constant (named_tree_of r.module_read) d ≡ Some w → spell (tree_of r.module_read) ≡ numbered_tokens 0 (words_of r.module_read.source)
     → Late d 7 (names_in (module_block (tree_of r.module_read))) (numbered_tokens 0 (words_of r.module_read.source)) (spell (gone_module d (tree_of r.module_read))) (occurrences (tree_of r.module_read))
     (map (ordinal_in r.ordinals) (occurrences (tree_of r.module_read)))
@@ -50,7 +50,7 @@ late_of r is d w has_value spelled =
     let named = subst (λ (l : List (Option ℕ)). Late d 7 labels (spell t) (spell (gone_module d t)) (occurrences t) l) (bound_by_table r is) h in
     late_move d 7 labels (spell t) (numbered_tokens 0 (words_of m.source)) (spell (gone_module d t)) (spell (gone_module d t)) (occurrences t) (map (ordinal_in r.ordinals) (occurrences t)) (sym spelled) refl named
 
--- the names of words whose first index is k have no smaller indexes
+-- The names of words whose first index is k have no smaller indexes.
 names_above : (i k : ℕ) (ws : List Word) → is_among i (lexeme_names (numbered_tokens k ws)) ≡ true → k ≤ i
 names_above i k [] e = absurd (true≢false (sym e))
 names_above i k (w ∷ ws) e = by_kind w.kind e (names_above i (suc k) ws)
@@ -65,8 +65,8 @@ names_above i k (w ∷ ws) e = by_kind w.kind e (names_above i (suc k) ws)
     by_kind (kind.Integer n) e later = let more = later e in omega (arith, more)
     by_kind (kind.Symbol s) e later = let more = later e in omega (arith, more)
 
--- if two joined lists are equal and their first parts have the same length, the first parts are
--- equal
+-- If two joined lists are equal and their first parts have the same length, the first parts are
+-- equal.
 first_same : (a b c d : List (Option ℕ)) → a ++ b ≡ c ++ d → length a ≡ length c → a ≡ c
 first_same [] b [] d e n = refl
 first_same (x ∷ a) b (z ∷ c) d e n =
@@ -79,7 +79,7 @@ map_joined : (ordinals : List (Option ℕ)) (xs ys : List ℕ) → map (ordinal_
 map_joined ordinals [] ys = refl
 map_joined ordinals (x ∷ xs) ys = λ i. ordinal_in ordinals x ∷ map_joined ordinals xs ys i
 
--- a token that is bound to d isn't among tokens that are bound to earlier declarations
+-- A token that is bound to d isn't among tokens that are bound to earlier declarations.
 not_in_front : (ordinals : List (Option ℕ)) (d j i : ℕ) (front following names : List ℕ) → AllLow d (map (ordinal_in ordinals) front) → AllIn following names → slice_get (front ++ following) j ≡ Some i → ordinal_in ordinals i ≡ Some d → is_among i names ≡ true
 not_in_front ordinals d j i [] [] names low among e o = absurd (cc)
 not_in_front ordinals d zero i [] (x ∷ following) names low among e o = ap (λ n. is_among n names) (sym (ap (λ (z : Option ℕ). elim z [ Some n ↦ n | None ↦ x ]) e)) ∙ among.0
@@ -90,7 +90,7 @@ not_in_front ordinals d zero i (x ∷ front) following names low among e o =
     absurd (omega (arith, less))
 not_in_front ordinals d (suc j) i (x ∷ front) following names low among e o = not_in_front ordinals d j i front following names low.1 among e o
 
--- names after the last token of a declaration
+-- A name after the last token of a declaration has a greater index.
 names_after : (d k : ℕ) (labels : List ℕ) (left : List (Terminal ℕ)) (ws : List Word) (t : Taken d k labels (numbered_tokens 0 ws) left) (i : ℕ) → is_among i (lexeme_names t.after) ≡ true → last_token t < i
 names_after d k labels left ws t i e =
     let front : List (Terminal ℕ) = t.before ++ (Mark t.border ∷ []) in
@@ -101,7 +101,7 @@ names_after d k labels left ws t i e =
     let count = a.count in
     omega (arith, there, count, n)
 
--- each occurrence that is bound to the constant follows its declaration
+-- Each occurrence that is bound to the constant follows its declaration.
 pub uses_following : (r : Resolution) → (d : ℕ) (labels : List ℕ) (left : List (Terminal ℕ))
     → (h : Late d 7 labels (numbered_tokens 0 (words_of r.module_read.source)) left (occurrences (tree_of r.module_read)) (map (ordinal_in r.ordinals) (occurrences (tree_of r.module_read))))
     → (j i : ℕ) → slice_get (occurrences (tree_of r.module_read)) j ≡ Some i → ordinal_in r.ordinals i ≡ Some d → last_token h.taken < i

@@ -1,5 +1,5 @@
--- After a declaration is removed and identifiers are replaced, the remaining words are the
--- remaining tokens with the same replacements.
+-- Proves that after a declaration is removed and identifiers are replaced, the remaining words are
+-- the remaining tokens with the same replacements.
 use Rattle.std.proofs.Common.{◌≡◌, inl, inr, ℕ, suc, ◌+◌, ◌<◌, ◌≤◌, true, false, ◌&&◌, if◌then◌else◌, nat_le, Some, List, [], ◌∷◌, ◌++◌, map, length, refl, sym, ap, ◌∙◌, arith, append_assoc, append-nil, length-append}
 use Rattle.std.proofs.lemmas.Bool.{lt-leb, le-leb}
 use Rattle.std.proofs.lemmas.Grind.{flat_map-append}
@@ -24,7 +24,7 @@ use Rattle.ob0_edits_tokens.proofs.Removals.{past_last}
 use Rattle.ob0_language_names.proofs.Peeling.{heads}
 use Rattle.ob0_inline.proofs.TakenOut.{Taken}
 
--- words that are split together with their tokens
+-- states that words are split where their tokens are split
 pub record Cut (k : ℕ) (ws : List Word) (front following : List (Terminal ℕ)) : Type 0 where
   pub first : List Word
   pub rest : List Word
@@ -48,7 +48,7 @@ cut_words k (w ∷ ws) (l ∷ front) following e =
       count = ap suc r.count;
     }
 
--- the word at a token
+-- The word at the index of a token is that token's word.
 pub lexeme_at : (k : ℕ) (ws : List Word) (xs : List (Terminal ℕ)) (l : Terminal ℕ) (ys : List (Terminal ℕ)) → numbered_tokens k ws ≡ xs ++ (l ∷ ys) → (length xs < length ws) × (lexeme_of (k + length xs) (word_at ws (length xs)).kind ≡ l)
 lexeme_at k [] [] l ys e = absurd (cc)
 lexeme_at k [] (x ∷ xs) l ys e = absurd (cc)
@@ -66,7 +66,7 @@ mark_kind i (kind.Reserved r) l e = cc
 mark_kind i (kind.Symbol s) l e = cc
 mark_kind i _ l e = absurd (cc)
 
--- the first and the last token of a declaration
+-- returns the first token of a declaration
 abbrev pub first_token : {d k : ℕ} {labels : List ℕ} {whole left : List (Terminal ℕ)} → Taken d k labels whole left → ℕ
 first_token t = length (t.before ++ (Mark t.border ∷ []))
 
@@ -120,7 +120,7 @@ module _ (s : Scanned) (d k : ℕ) (labels : List ℕ) (left : List (Terminal �
             elim t.opens [ inl o ↦ inl (kind_is ∙ o) | inr o ↦ inr (kind_is ∙ o) ];
       }
 
--- the changes of joined lists of words are the changes of each part
+-- Changing joined lists of words changes each part.
 changed_words-append : (ch : Changes) (k : ℕ) (xs ys : List Word) → changed_words ch k (xs ++ ys) ≡ changed_words ch k xs ++ changed_words ch (k + length xs) ys
 changed_words-append ch k [] ys = ap (λ n. changed_words ch n ys) (let z : k ≡ k + 0 = omega arith in z)
 changed_words-append ch k (x ∷ xs) ys =
@@ -140,7 +140,8 @@ inside_gone first last ch k (x ∷ xs) g h =
     (λ i. or_itself x (if in_it i then Some [] else ch k) ++ inside_gone first last ch (suc k) xs (omega (arith, g)) (omega (arith, h)) i)
 
 module _ (s : Scanned) (least : ℕ) (places : List ℕ) (names : AreNames s.tokens least places) (vs : List Word) where
-  -- the words without the declaration, with others at the places
+  -- The words without the declaration, with other words at the places, are the remaining tokens
+  -- with the replacements.
   pub words_left : (d k : ℕ) (labels : List ℕ) (left : List (Terminal ℕ)) (t : Taken d k labels (numbered_tokens 0 (words_of s)) left)
       → map word_lexeme (changed_words (without_words (first_token t) (last_token t) (at_each places vs)) 0 (words_of s)) ≡ flat_map (put s places vs) left
   words_left d k labels left t =

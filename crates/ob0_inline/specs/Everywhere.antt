@@ -1,4 +1,5 @@
--- The constant at a place, the module after inlining it everywhere, and the refusals.
+-- Defines the constant at a place, the module after the constant is inlined everywhere, and the
+-- refusals.
 -- Rule: docs/PROTOCOL.md, Requests on documents 9, Refusals of edits.
 use Rattle.std.specs.Prelude.{◌≡◌, ◌≢◌, ◌⊎◌, ℕ, Bool, not, ◌&&◌, if◌then◌else◌, List, [], ◌∷◌, Option, Some, None, Result, Ok, Err, Vec, drop, length, map}
 use Rattle.std.specs.List.{All, filter, list_any, position_from, range_with_len, zip}
@@ -32,8 +33,8 @@ use Rattle.ob0_inline.specs.Inlined.{LeavesModule, first_refusal}
 use Rattle.ob0_inline.specs.Uses.{is_predeclared_truth}
 use Rattle.ob0_inline.specs.Values.{value_factor, value_text}
 
--- States that a constant of a CONST section has this ordinal and value, this declaring token, and
--- this first `;` after it.
+-- States that a constant of a CONST section has this ordinal, this value and this declaring token.
+-- `last` is the first `;` after that token.
 pub record IsConstant (m : Parsed) (c : NamedConstant) : Type 0 where
   pub has_value : value_of_constant (named_tree_of m) c.ordinal ≡ Some (scalar_value c.value)
   pub begins : token_declaring (declaring_only (identifiers role.Declaring (tree_of m))) c.ordinal
@@ -47,36 +48,37 @@ pub record IsConstantAt (m : Parsed) (offset : ℕ) (c : NamedConstant) : Type 0
   pub named : name_on m offset ≡ Some (record { token = token; ordinal = c.ordinal })
   pub is_constant : IsConstant m c
 
--- states that the place isn't on a name of a constant
+-- holds if the place isn't on a name of a constant
 abbrev pub NoConstantAt : Parsed → ℕ → Type 0
 NoConstantAt m offset =
     (n : named.Named)
     → name_on m offset ≡ Some n
     → value_of_constant (named_tree_of m) n.ordinal ≡ None
 
--- the tokens of the occurrences that are bound to d, in text order
+-- returns the tokens of the occurrences that are bound to d, in text order
 abbrev pub uses_of : Parsed → ℕ → List ℕ
 uses_of m d =
     map (λ u. u.0) (filter (λ u. same_label u.1 (declared d))
     (zip (occurrences (tree_of m)) (bindings (named_tree_of m))))
 
--- states that each name of d is a factor by itself
+-- holds if each name of d is a factor by itself
 abbrev pub IsAlone : Parsed → ℕ → Type 0
 IsAlone m d = All (λ l. l ≢ declared d) (names_elsewhere (numbered (named_tree_of m)))
 
--- the module with the value in place of all uses, and without the declaration
+-- returns the module with the value in place of all uses, and without the declaration
 abbrev pub inlined_all : Parsed → NamedConstant → Tree Name module_text
 inlined_all m c = inlined_everywhere (named_tree_of m) c.ordinal (value_factor c.value)
 
--- the text after this inlining
+-- returns the text after the constant is inlined everywhere, in bytes
 abbrev pub text_without : Parsed → NamedConstant → List ℕ
 text_without m c = without_text m.source c.first c.last (uses_of m c.ordinal) (value_text c.value)
 
--- true if an occurrence is a use, and TRUE or FALSE in its place wouldn't be the predeclared name
+-- true if an occurrence is a use of the constant, and TRUE or FALSE in its place wouldn't be the
+-- predeclared name
 abbrev pub is_hidden : Tree Name module_text → NamedConstant → ℕ → Bool
 is_hidden m c k = same_ordinal (binds m k) c.ordinal && not (is_predeclared_truth m k c.value)
 
--- true if the word that would be written isn't the predeclared name at some use
+-- true if at some use the word that would be written isn't the predeclared name
 abbrev pub any_hidden : Tree Name module_text → NamedConstant → Bool
 any_hidden m c = list_any (is_hidden m c) (range_with_len 0 (length (bindings m)))
 
@@ -84,7 +86,7 @@ any_hidden m c = list_any (is_hidden m c) (range_with_len 0 (length (bindings m)
 abbrev pub has_comment : Parsed → NamedConstant → Bool
 has_comment m c = list_any (is_inside (span_over m.source.tokens c.first c.last)) m.source.comments
 
--- the first of the refusals that apply to a constant, or None if there are no refusals
+-- returns the first of the refusals that apply to a constant, or None if none applies
 abbrev pub refusal_everywhere : Parsed → NamedConstant → Option EditRefusal
 refusal_everywhere m c =
     first_refusal (text_without m c) (inlined_all m c)
@@ -92,7 +94,7 @@ refusal_everywhere m c =
     else if has_comment m c then Some CommentInside else None)
 
 -- States that these edits remove the declaration, from its name to its `;`, and write the value in
--- place of each use. They change no other character, and leave the text of the inlined module,
+-- place of each use. They change no other character. They leave the text of the inlined module,
 -- which is well-typed and has the same runs.
 pub record InlinesEverywhere (unit : counting.Unit) (text : List ℕ) (m : Parsed)
     (c : NamedConstant) (edits : List Edit) : Type 0 where
@@ -103,8 +105,8 @@ pub record InlinesEverywhere (unit : counting.Unit) (text : List ℕ) (m : Parse
   pub well_typed : WellTyped (inlined_all m c)
   pub same_runs : SameRuns (inlined_all m c) (named_tree_of m)
 
--- States the answer for a constant: the edits if nothing refuses it, otherwise the first refusal. A
--- failed allocation may replace either.
+-- Holds if this is the answer for a constant: the edits if nothing refuses them, otherwise the
+-- first refusal. If an allocation fails, the answer may be `Memory` instead of either.
 abbrev pub AnswersConstant : counting.Unit
     → List ℕ
     → Parsed
@@ -116,8 +118,8 @@ AnswersConstant unit text m c (Ok edits) =
 AnswersConstant unit text m c (Err refusal) =
     (refusal_everywhere m c ≡ Some refusal) ⊎ (refusal ≡ Memory)
 
--- States the answer at a place: the answer for the constant there, or NoName if there is no
--- constant.
+-- Holds if this is the answer at a place: the answer for the constant there, or `NoName` if there
+-- is none.
 abbrev pub AnswersEverywhere : counting.Unit
     → List ℕ
     → Parsed

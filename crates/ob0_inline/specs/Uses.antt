@@ -1,4 +1,5 @@
--- The use of a constant at a place, the module after inlining it there, and the refusals.
+-- Defines the use of a constant at a place, the module after the constant is inlined there, and the
+-- refusals.
 -- Rule: docs/PROTOCOL.md, Requests on documents 9, Refusals of edits.
 use Rattle.std.specs.Prelude.{◌≡◌, ◌⊎◌, ℕ, Bool, true, false, if◌then◌else◌, List, [], ◌∷◌, Option, Some, None, Result, Ok, Err, Vec, map, slice_get}
 use Rattle.std.specs.declared.alloc.Global.{Global}
@@ -39,23 +40,23 @@ pub record IsUse (m : Parsed) (u : Use) : Type 0 where
   pub bound : binds (named_tree_of m) u.occurrence ≡ Some u.constant
   pub has_value : value_of_constant (named_tree_of m) u.constant ≡ Some (scalar_value u.value)
 
--- the ordinals of the predeclared TRUE and FALSE
+-- returns the ordinal of the predeclared TRUE or FALSE
 abbrev pub truth_ordinal : Bool → ℕ
 truth_ordinal true = 2
 truth_ordinal false = 3
 
--- true if TRUE or FALSE in place of an occurrence would be the predeclared name; always true for a
--- number
+-- True if TRUE or FALSE in place of an occurrence would be the predeclared name. It is always true
+-- for a number.
 abbrev pub is_predeclared_truth : Tree Name module_text → ℕ → Scalar → Bool
 is_predeclared_truth m occurrence (scalar.Number n) = true
 is_predeclared_truth m occurrence (scalar.Truth b) =
     same_ordinal (sees m occurrence (truth_text b)) (truth_ordinal b)
 
--- the module with the value in place of the use
+-- returns the module with the value in place of the use
 abbrev pub inlined_here : Parsed → Use → Tree Name module_text
 inlined_here m u = inlined (named_tree_of m) (only u.occurrence) (value_factor u.value)
 
--- the first of the refusals that apply to a use, or None if there are no refusals
+-- returns the first of the refusals that apply to a use, or None if none applies
 abbrev pub refusal_here : Parsed → Use → Option EditRefusal
 refusal_here m u =
     first_refusal (with_text_at m.source (u.token ∷ []) (value_text u.value)) (inlined_here m u)
@@ -70,8 +71,8 @@ pub record InlinesHere (unit : counting.Unit) (text : List ℕ) (m : Parsed) (u 
   pub well_typed : WellTyped (inlined_here m u)
   pub same_runs : SameRuns (inlined_here m u) (named_tree_of m)
 
--- States the answer for a use: the edits if nothing refuses it, otherwise the first refusal. A
--- failed allocation may replace either.
+-- Holds if this is the answer for a use: the edits if nothing refuses them, otherwise the first
+-- refusal. If an allocation fails, the answer may be `Memory` instead of either.
 abbrev pub AnswersUse : counting.Unit
     → List ℕ
     → Parsed
@@ -82,7 +83,8 @@ AnswersUse unit text m u (Ok edits) =
     (refusal_here m u ≡ None) × InlinesHere unit text m u edits.items
 AnswersUse unit text m u (Err refusal) = (refusal_here m u ≡ Some refusal) ⊎ (refusal ≡ Memory)
 
--- states the answer at a place: the answer for the use there, or NoName if there is no use
+-- holds if this is the answer at a place: the answer for the use there, or `NoName` if there is
+-- none
 abbrev pub AnswersHere : counting.Unit
     → List ℕ
     → Parsed

@@ -1,4 +1,4 @@
-//! The constant at a place, and its declaration.
+//! Finds the constant at a place, and its declaration.
 
 ghost use Rattle.std.specs.Prelude.{◌≡◌, drop, IsSomeAnd, MatchOption, Some};
 ghost use Rattle.std.specs.List.{position_from};
@@ -14,8 +14,8 @@ use ob0_scope::name_at;
 use ob0_scope_table::Resolved;
 use ob0_types::WellTyped;
 
-/// A constant of a CONST section: its ordinal and value, and the tokens of its declaration's name
-/// and `;`.
+/// A constant of a CONST section: its ordinal and value, the token of its declaration's name, and
+/// the token of that declaration's `;`.
 #[derive(Clone, Copy)]
 pub struct NamedConstant {
     pub ordinal: usize,
@@ -24,7 +24,8 @@ pub struct NamedConstant {
     pub last: usize,
 }
 
-/// Returns the constant whose name is at a place, at its declaration or at a use.
+/// Returns the constant whose name is at a place, at its declaration or at a use. None if there is
+/// none.
 pub(crate) fn constant_at(module: &WellTyped, offset: usize) -> Option<NamedConstant>
     ensures { MatchOption result (NoConstantAt «module».now.module_read offset)
         (λ c. IsConstantAt «module».now.module_read offset c) }
@@ -39,13 +40,13 @@ pub(crate) fn constant_at(module: &WellTyped, offset: usize) -> Option<NamedCons
     }
 }
 
-/// Returns the constant with this ordinal and value.
+/// Returns the constant with this ordinal and value, with the tokens of its declaration.
 fn named_constant(names: &Resolved, ordinal: usize, value: Scalar) -> Option<NamedConstant>
     requires has_value { value_of_constant (named_tree_of names.now.module_read) ordinal
         ≡ Some (scalar_value value) }
     ensures { IsSomeAnd result (λ c. (c.ordinal ≡ ordinal) × IsConstant names.now.module_read c) }
 {
-    // For the proof: the contract of this call is needed.
+    // The proof needs the contract of this call.
     let _module = names.module();
     match names.declaring_token(ordinal) {
         Some(first) => match end_of_declaration(names.tokens().tokens(), first) {
@@ -61,7 +62,7 @@ fn named_constant(names: &Resolved, ordinal: usize, value: Scalar) -> Option<Nam
     }
 }
 
-/// Returns the first `;` at or after a token.
+/// Returns the first `;` at or after a token. None if there is none.
 fn end_of_declaration(tokens: &[Token], first: usize) -> Option<usize>
     ensures { result ≡ position_from (λ t. is_semicolon t.kind) first (drop first tokens.now) }
 {

@@ -1,4 +1,4 @@
-//! The nesting of a text after it is edited.
+//! Checks the nesting of a text after it is edited.
 
 ghost use Rattle.std.specs.Prelude.{◌≡◌, ◌≤◌, ◌+◌, List, IfOk, IfErr, map, nat_le, nat_lt, ℕ};
 ghost use Rattle.ob0_edits_tokens.specs.Replaced.{LeavesWords};
@@ -16,7 +16,7 @@ use ob0_text::{Edit, EditRefusal, PatchFault, TextStore, patch};
 use ob0_tree::{MAX_NESTING, Module};
 use std::alloc::Global;
 
-/// Returns whether the edited text is nested deeper than a module may be, if the edits make the
+/// Returns true if the edited text is nested deeper than a module may be. The edits must make the
 /// module at most one level deeper. The text is parsed only if the module is already nested as deep
 /// as it may be.
 pub(crate) fn is_too_deep<T: TextStore>(
@@ -37,7 +37,8 @@ pub(crate) fn is_too_deep<T: TextStore>(
     is_parsed_too_deep(alloc, store, edits)
 }
 
-/// Returns whether the edited text is nested deeper than a module may be, by parsing it.
+/// Returns true if the edited text is nested deeper than a module may be. The text is parsed to
+/// find out.
 fn is_parsed_too_deep<T: TextStore>(
     alloc: Global,
     store: &T,
@@ -61,8 +62,8 @@ fn is_parsed_too_deep<T: TextStore>(
     }
 }
 
-/// Returns whether a text that has the tokens of a tree is a module. It is exactly if the tree
-/// isn't nested deeper than a module may be.
+/// Returns true if a text is a module. The text must have the tokens of a tree. Then it is a module
+/// exactly if the tree isn't nested deeper than a module may be.
 fn is_module(alloc: Global, text: &str) -> Result<bool, EditRefusal>
     ensures shallow { (s : Scanned) (t : Tree (List ℕ) module_text) → IsScan s → s.text ≡ text.now
         → text_lexemes s ≡ spell t
@@ -78,8 +79,8 @@ fn is_module(alloc: Global, text: &str) -> Result<bool, EditRefusal>
     }
 }
 
-/// Returns whether the tokens of a text that a tree spells are a module. They are exactly if the
-/// tree isn't nested deeper than a module may be.
+/// Returns true if the tokens of a text are a module. A tree must spell them. Then they are a
+/// module exactly if the tree isn't nested deeper than a module may be.
 fn is_parsed(alloc: Global, tokens: &Tokens) -> Result<bool, EditRefusal>
     ensures shallow { (t : Tree (List ℕ) module_text)
         → text_lexemes tokens.now ≡ spell t

@@ -1,4 +1,4 @@
-//! The edits that inline a constant everywhere.
+//! Inlines a constant everywhere by edits.
 
 ghost use Rattle.std.specs.Prelude.{◌≡◌, ◌⊎◌, ◌<◌, ◌≤◌, ◌∷◌, [], IfOk, IfErr, IsErrOf, length, map};
 ghost use Rattle.std.specs.List.{list_any};
@@ -31,8 +31,9 @@ use ob0_types::WellTyped;
 use std::alloc::{AllocError, Global};
 
 /// Returns the edits that write a constant's value in place of all its uses and remove its
-/// declaration, from its name to its `;`. One of the constant's names is at the place. The first
-/// edit removes the declaration, and the others follow in text order.
+/// declaration, from its name to its `;`. The place must be on one of the constant's names,
+/// otherwise the refusal is `NoName`. The first edit removes the declaration, and the others follow
+/// in text order.
 pub fn inline_all<T: TextStore>(
     alloc: Global,
     store: &T,
@@ -50,7 +51,7 @@ pub fn inline_all<T: TextStore>(
 }
 
 /// Returns the edits that write this constant's value in place of all its uses and remove its
-/// declaration.
+/// declaration, or the refusal.
 fn inline_constant<T: TextStore>(
     alloc: Global,
     store: &T,
@@ -80,8 +81,8 @@ fn inline_constant<T: TextStore>(
     }
 }
 
-/// Returns one edit that removes the constant's declaration, and one for each use, which writes the
-/// value in its place.
+/// Returns one edit that removes the constant's declaration, then one for each use, which writes
+/// the value in its place. Refused if the text becomes too long or too deep.
 fn edits_everywhere<T: TextStore>(
     alloc: Global,
     store: &T,
@@ -129,7 +130,7 @@ fn edits_everywhere<T: TextStore>(
 fn uses_of(alloc: Global, names: &Resolved, constant: usize) -> Result<Vec<usize>, AllocError>
     ensures { IfOk result (λ uses. uses.items ≡ uses_of names.now.module_read constant) }
 {
-    // For the proof: the contract of this call is needed.
+    // The proof needs the contract of this call.
     let _module = names.module();
     let mut uses = Vec::new(alloc);
     for token in names.occurrences() {
@@ -140,7 +141,7 @@ fn uses_of(alloc: Global, names: &Resolved, constant: usize) -> Result<Vec<usize
     Ok(uses)
 }
 
-/// Returns whether a comment is between the name of a constant's declaration and its `;`.
+/// Returns true if a comment is between the name of a constant's declaration and its `;`.
 fn has_comment(tokens: &Tokens, constant: NamedConstant) -> bool
     requires inside { constant.last < length tokens.now.tokens }
     requires order { constant.first < constant.last }

@@ -1,4 +1,4 @@
-//! The edits that inline a constant at one use.
+//! Inlines a constant at one use by an edit.
 
 ghost use Rattle.std.specs.Prelude.{◌≡◌};
 ghost use Rattle.std.specs.Str.{chars};
@@ -16,7 +16,8 @@ use ob0_text::{Edit, EditRefusal, Position, TextStore};
 use ob0_types::WellTyped;
 use std::alloc::Global;
 
-/// Returns the edit that writes a constant's value in place of the use at a place.
+/// Returns the edit that writes a constant's value in place of the use at a place. If the place
+/// isn't on a use, the refusal is `NoName`.
 pub fn inline_here<T: TextStore>(
     alloc: Global,
     store: &T,
@@ -33,7 +34,7 @@ pub fn inline_here<T: TextStore>(
     }
 }
 
-/// Returns the edit that writes a constant's value in place of this use.
+/// Returns the edit that writes a constant's value in place of this use, or the refusal.
 fn inline_use<T: TextStore>(
     alloc: Global,
     store: &T,

@@ -1,5 +1,5 @@
-//! Inlining a constant, at one use or everywhere: the edits that replace its name by its value, or
-//! the refusal. (docs/PROTOCOL.md, Requests on documents and Refusals of edits.)
+//! Inlines a constant, at one use or everywhere. Returns the edits that replace its name by its
+//! value, or the refusal. (docs/PROTOCOL.md, Requests on documents and Refusals of edits.)
 #![tactic(auto)]
 
 mod constants;

@@ -1,4 +1,4 @@
-//! Tests whether TRUE and FALSE are the predeclared names at a place.
+//! Tests if TRUE and FALSE are the predeclared names at a place.
 
 ghost use Rattle.std.specs.Prelude.{◌≡◌, IfOk, ◌==◌, ◌&&◌, not, length, option_and_then, slice_get};
 ghost use Rattle.std.specs.List.{list_any, range_with_len};
@@ -15,8 +15,8 @@ use ob0_scope::ordinals_seen;
 use ob0_scope_table::{FALSE, Resolved, TRUE, same_ordinal};
 use std::alloc::{AllocError, Global};
 
-/// Returns whether the name that would be written for a value, in place of an occurrence, is the
-/// predeclared one. For a number no name is written, so the result is true.
+/// Returns true if the name that would be written for a value, in place of an occurrence, is the
+/// predeclared one. No name is written for a number, so the result is true.
 pub(crate) fn is_predeclared_truth(
     alloc: Global,
     names: &Resolved,
@@ -33,7 +33,8 @@ pub(crate) fn is_predeclared_truth(
     }
 }
 
-/// Returns whether a name, in place of an occurrence, would be bound to this declaration.
+/// Returns true if a name, in place of an occurrence, would be bound to the declaration with this
+/// ordinal.
 fn is_seen(
     alloc: Global,
     names: &Resolved,
@@ -58,8 +59,8 @@ fn is_bound(bound: &[Option<usize>], occurrence: usize, ordinal: usize) -> bool
     }
 }
 
-/// Returns whether the name that would be written for a constant isn't the predeclared one at some
-/// use. For a number no name is written, so the result is false.
+/// Returns true if the name that would be written for a constant isn't the predeclared one at some
+/// use. No name is written for a number, so the result is false.
 pub(crate) fn any_hidden(
     alloc: Global,
     names: &Resolved,
@@ -76,8 +77,8 @@ pub(crate) fn any_hidden(
     }
 }
 
-/// Returns whether a name, in place of some use of a constant, would be bound to another
-/// declaration than this.
+/// Returns true if a name, in place of some use of a constant, wouldn't be bound to the declaration
+/// with this ordinal.
 fn is_hidden(
     alloc: Global,
     names: &Resolved,
@@ -91,7 +92,7 @@ fn is_hidden(
         && not (same_ordinal (sees (named_tree_of names.now.module_read) k name.now) ordinal))
         (range_with_len 0 (length (bindings (named_tree_of names.now.module_read))))) }
 {
-    // For the proof: the contract of this call is needed.
+    // The proof needs the contract of this call.
     let _module = names.module();
     let bound = ordinals_seen(alloc, names, name)?;
     Ok(any_elsewhere(names, &bound, constant, ordinal))

@@ -1,4 +1,4 @@
-//! The use of a constant at a place.
+//! Finds the use of a constant at a place.
 
 ghost use Rattle.std.specs.Prelude.{◌≡◌, ◌==◌, MatchOption, Some};
 ghost use Rattle.std.specs.List.{position_from};
@@ -9,8 +9,8 @@ use ob0_scope::name_at;
 use ob0_scope_table::Resolved;
 use ob0_types::WellTyped;
 
-/// A use of a constant: its token, its number among the occurrences of the text, and the constant's
-/// ordinal and value.
+/// A use of a constant: its token, its number among the occurrences of the text (counted from 0),
+/// and the constant's ordinal and value.
 #[derive(Clone, Copy)]
 pub struct Use {
     pub token: usize,
@@ -19,7 +19,7 @@ pub struct Use {
     pub value: Scalar,
 }
 
-/// Returns the use at a place.
+/// Returns the use at a place. None if there is none.
 pub(crate) fn use_at(module: &WellTyped, offset: usize) -> Option<Use>
     ensures at { MatchOption result ((u : Use) → IsUseAt «module».now.module_read offset u → ⊥)
         (λ u. IsUseAt «module».now.module_read offset u) }
@@ -43,12 +43,12 @@ pub(crate) fn use_at(module: &WellTyped, offset: usize) -> Option<Use>
     }
 }
 
-/// Returns the number of the occurrence at a token. Tokens of occurrences ascend, so a binary
-/// search finds it.
+/// Returns the number of the occurrence at a token, found by binary search since tokens of
+/// occurrences ascend. None if there is none.
 fn occurrence_at(names: &Resolved, token: usize) -> Option<usize>
     ensures { result ≡ position_from (λ other. other == token) 0 names.now.uses }
 {
-    // For the proof: the contract of this call is needed.
+    // The proof needs the contract of this call.
     let _module = names.module();
     names.occurrences().binary_search(&token).ok()
 }

@@ -1,4 +1,4 @@
-//! The edit that writes a value in place of a use.
+//! Writes a value in place of a use by an edit.
 
 ghost use Rattle.std.specs.Prelude.{◌≡◌, ◌⊎◌, ◌<◌, ◌≤◌, ◌∷◌, [], IfOk, IfErr, IsErrOf, length, map};
 ghost use Rattle.std.specs.Str.{chars};
@@ -20,7 +20,8 @@ use ob0_scope_table::Resolved;
 use ob0_text::{Edit, EditRefusal, TextStore};
 use std::alloc::Global;
 
-/// Returns the edit that writes a constant's value in place of a use.
+/// Returns the edit that writes a constant's value in place of a use. Refused if the text becomes
+/// too long or too deep.
 pub(crate) fn edits_at<T: TextStore>(
     alloc: Global,
     store: &T,

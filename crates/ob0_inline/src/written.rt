@@ -1,4 +1,4 @@
-//! The text of a value.
+//! Writes the text of a value.
 
 ghost use Rattle.std.specs.Prelude.{◌≡◌, IfOk, IsTrue, string_bytes};
 ghost use Rattle.ob0_edits_tokens.specs.Replaced.{ReplacesName};
@@ -11,8 +11,8 @@ ghost use Rattle.ob0_inline.specs.Values.{value_text, value_words};
 use ob0_language_values::Scalar;
 use std::alloc::{AllocError, Global};
 
-/// Returns the text of a value. A negative number is in parentheses; the least number is a
-/// difference, because 2147483648 is too large for an integer.
+/// Returns the text of a value. A negative number is in parentheses. The least number is written as
+/// a difference, because 2147483648 is too large for an integer.
 pub(crate) fn value_text(alloc: Global, value: Scalar) -> Result<String, AllocError>
     ensures text { IfOk result (λ text. string_bytes text ≡ value_text value) }
     ensures can_replace { ReplacesName (value_text value) (value_words value) }
@@ -39,12 +39,12 @@ fn number_text(alloc: Global, number: i32) -> Result<String, AllocError>
     format!(in alloc; "{number}")
 }
 
-/// States that a 32-bit number may be written wherever an identifier stands.
+/// Does nothing. Its contract states that the text of a 32-bit number may replace any identifier's.
 fn replaces_name(number: i32)
     ensures { ReplacesName (number_text number) (number_words number) }
 {}
 
-/// States that a value is a 32-bit number or a truth value.
+/// Does nothing. Its contract states that a value is a 32-bit number or a truth value.
 pub(crate) fn is_scalar(value: Scalar)
     ensures { IsScalar (scalar_value value) }
 {
@@ -56,6 +56,6 @@ pub(crate) fn is_scalar(value: Scalar)
 fn fits(number: i32)
     ensures { IsTrue (fits number) }
 {
-    // For the proof: the range of this value is needed.
+    // The proof needs the range of this value.
     let _ = number;
 }

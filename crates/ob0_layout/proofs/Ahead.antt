@@ -1,4 +1,5 @@
--- A pass over the tokens and comments of a text: the next lexeme, and the gap before it.
+-- Proves one step of the pass over the tokens and comments of a text: which lexeme is next, and
+-- which gap is before it.
 -- The loop needs only `at_comment`, `at_token` and `at_end`; `passing_moved` moves their facts
 -- along equations.
 use Rattle.std.proofs.Common.{◌≡◌, ℕ, ◌+◌, ◌-◌, ◌*◌, ◌<◌, ◌≤◌, Bool, true, false, ◌||◌, cond, ◌⊎◌, inl, inr, Option, Some, None, List, [], ◌∷◌, ◌++◌, length, take, drop, map, replicate, slice_range, refl, sym, ap, ◌∙◌, subst, arith, append_assoc, append-nil, is_none}
@@ -49,7 +50,7 @@ first_token_kind : (k : LexemeKind) (at size : ℕ) (ls : List Lexeme) (t : Toke
 first_token_kind (lexeme.Token k) at size ls t ts more e = let same : record { kind = k; span = span_from at size } ≡ t = first_same e in omega (arith, ap (λ (x : Token). x.span.start) same)
 first_token_kind _ at size ls t ts more e = omega (arith, more e)
 
--- tokens and comments of a suffix begin at its start or later
+-- The tokens of a suffix begin at its start or later.
 first_token : (at : ℕ) (ls : List Lexeme) (t : Token) (ts : List Token) → tokens_from at ls ≡ t ∷ ts → at ≤ t.span.start
 first_token at [] t ts e = absurd (cc)
 first_token at (l ∷ ls) t ts e = first_token_kind l.kind at (length l.text) ls t ts (first_token (at + length l.text) ls t ts) e
@@ -63,7 +64,7 @@ first_comment : (at : ℕ) (ls : List Lexeme) (c : Span) (cs : List Span) → co
 first_comment at [] c cs e = absurd (cc)
 first_comment at (l ∷ ls) c cs e = first_comment_kind l.kind at (length l.text) ls c cs (first_comment (at + length l.text) ls c cs) e
 
--- the next lexeme, if it is the token or comment at this place
+-- returns a lexeme at this place as the next token or comment; None if it is white space
 abbrev first_of : LexemeKind → Span → Option NextLexeme
 first_of lexeme.Space span = None
 first_of lexeme.Comment span = Some (next.Comment span)
@@ -93,14 +94,14 @@ comes_first (lexeme.Token k) at t ls solid some = by_comments (comments_from (at
         ap (λ b. if b then Some (next.Comment c) else Some (next.Token token)) test
 
 module _ (text : List ℕ) where
-  -- only white space remains
+  -- states that only white space remains
   pub record NoMore (at : ℕ) (rest : List Lexeme) : Type 0 where
     pub up : at ≤ length text
     pub tokens : tokens_from at rest ≡ []
     pub comments : comments_from at rest ≡ []
     pub none : (level : ℕ) (broken : Bool) (ss : List LineRole) → placed at level broken ss rest ≡ []
 
-  -- a token or comment, after white space
+  -- states that a token or comment comes next, after white space
   pub record Found (at : ℕ) (rest : List Lexeme) : Type 0 where
     pub place : ℕ
     pub kind : LexemeKind
@@ -176,7 +177,8 @@ no_indent indent_by.Tab = refl
 no_indent (indent_by.Spaces n) = let none : 0 * n ≡ 0 = omega arith in ap (λ k. replicate k 32) none
 
 module _ (indent : Indent) (text : List ℕ) where
-  -- the gaps after offset `start`, which is the text's start or the end of a token or comment
+  -- returns the gaps after offset `start`, which is the text's start or the end of a token or
+  -- comment
   abbrev gaps_left : Option Solid → ℕ → List PlacedLexeme → List Cut
   gaps_left None start [] = record { from = start; to = length text; new = [] } ∷ []
   gaps_left None start (b ∷ bs) = record { from = start; to = b.span.start; new = [] } ∷ gaps_after indent (length text) b bs
@@ -186,7 +188,7 @@ module _ (indent : Indent) (text : List ℕ) where
   at_start [] = refl
   at_start (b ∷ bs) = refl
 
-  -- the gaps after a token or comment depend only on its kind, role and end
+  -- The gaps after a token or comment depend only on its kind, role and end.
   same_after : (b : PlacedLexeme) (bs : List PlacedLexeme) → gaps_after indent (length text) b bs ≡ gaps_left (Some (make_solid b.lexeme.kind b.role)) b.span.end bs
   unfolding gap
   same_after b [] = refl
@@ -202,7 +204,7 @@ module _ (indent : Indent) (text : List ℕ) where
   final_gap None start = refl
   final_gap (Some a) start = ap (λ xs. record { from = start; to = length text; new = 10 ∷ xs } ∷ []) (no_indent indent)
 
-  -- adds one more gap to the list
+  -- Adding one more gap to the list adds it to the changed gaps if it changes.
   one_more : (out : List GapSite) (g : GapSite) (cs : List Cut)
       → map (gap_cut indent) (out ++ changed_sites indent text (g ∷ [])) ++ changed_gaps text cs ≡ map (gap_cut indent) out ++ changed_gaps text (gap_cut indent g ∷ cs)
   one_more out g cs =
@@ -214,7 +216,8 @@ module _ (indent : Indent) (text : List ℕ) where
       by_test true = refl
       by_test false = refl
 
-  -- the gaps found so far and the remaining lexemes; together they give all gaps that change
+  -- states that the gaps found so far and the gaps of the remaining lexemes together are all gaps
+  -- that change
   pub record Passing (whole : List Cut) (left : List Token) (comments : List Span) (ss : List LineRole) (before : Option Solid) (level start : ℕ) (out : List GapSite) : Type 0 where
     pub rest : List Lexeme
     pub lexemes_from : LexemesFrom text start rest []
@@ -232,7 +235,7 @@ module _ (indent : Indent) (text : List ℕ) where
     same = λ i. map (gap_cut indent) (out_is i) ++ changed_gaps text (at_start (placed 0 0 true ss scan.lexemes) i);
   }
 
-  -- the same fact for equal parts
+  -- The invariant of the pass holds of equal parts.
   pub passing_moved : {whole : List Cut} {left left' : List Token} {comments comments' : List Span} {ss ss' : List LineRole} {before before' : Option Solid} {level level' start : ℕ} {out out' : List GapSite}
       → Passing whole left comments ss before level start out → left' ≡ left → comments' ≡ comments → ss' ≡ ss → before' ≡ before → level' ≡ level → out' ≡ out
       → Passing whole left' comments' ss' before' level' start out'
@@ -248,7 +251,7 @@ module _ (indent : Indent) (text : List ℕ) where
     abbrev with_gap : ℕ → Gap → List GapSite
     with_gap end g = out ++ changed_sites indent text (make_site start end g ∷ [])
 
-    -- the pass moves over a token or comment
+    -- states that the pass moves over a token or comment
     pub record Passes (kind : LexemeKind) (span : Span) (role : LineRole) (left' : List Token) (comments' : List Span) (ss' : List LineRole) (level' : ℕ) : Type 0 where
       pub up : start ≤ span.start
       pub ordered : span.start ≤ span.end

@@ -1,4 +1,4 @@
--- Each lexeme of a formatted text ends at the start of the next one.
+-- Proves that each lexeme of a formatted text ends at the start of the next one.
 use Rattle.std.proofs.Common.{◌≡◌, ℕ, ◌+◌, Bool, true, false, ◌||◌, ◌==◌, ◌*◌, cond, List, [], ◌∷◌, ◌++◌, get_or, drop, length, map, refl, sym, ap, ◌∙◌, subst, arith, ◌⊎◌, inl, inr, ⊎_elim, eqb-true}
 use Rattle.std.specs.List.{AllPass}
 use Rattle.std.specs.Char.{is_ascii_alphanumeric}
@@ -33,12 +33,12 @@ use Rattle.ob0_layout.specs.LineRoles.{line_roles}
 use Rattle.ob0_layout.specs.Layout.{PlacedLexeme, placed, next_line, next_role, has_break, comment_role, is_comment, follows_directly, precedes_directly, indentation, gap, gap_between, gap_in_line, gap_text, spaced, laid_after, laid, laid_out}
 use Rattle.ob0_layout.proofs.Pairs.{Calm, calm_next, calm_paren, is_paren, is_star, calm_spelled}
 
--- states that a lexeme is a token or comment
+-- holds if a lexeme is a token or comment
 abbrev pub IsSolid : LexemeKind → Type 0
 IsSolid lexeme.Space = ⊥
 IsSolid other = Unit {0}
 
--- a byte that continues no token
+-- states that a byte continues no token
 record Quiet (x : ℕ) : Type 0 where
   alone : is_ascii_alphanumeric x ≡ false
   unequal : (x == 61) ≡ false
@@ -62,14 +62,14 @@ not_blank lexeme.Space solid e = solid
 not_blank (lexeme.Token token.Identifier) solid e = cc
 not_blank _ solid e = cc
 
--- the first byte of a token or comment isn't white space
+-- The first byte of a token or comment isn't white space.
 pub solid_first : (k : LexemeKind) (text : List ℕ) → IsSolid k → Belongs k text → is_space (get_or text 0 0) ≡ false
 solid_first k text solid h = false_from_ne_true (is_space (get_or text 0 0)) (λ blank. not_blank k solid (sym (family-blank (get_or text 0 0) blank) ∙ head_family k text h))
 
 differ : false ≡ true → ⊥
 differ e = cc
 
--- a token that needs no space before it continues no token
+-- A token that needs no space before it continues no token.
 quiet_symbol : (s : Symbol) (role : LineRole) → follows_directly (lexeme.Token (token.Symbol s)) role ≡ true → Quiet (get_or (symbol_text s) 0 0)
 quiet_symbol symbol.Dot role h = record { alone = refl; unequal = refl; starless = refl }
 quiet_symbol symbol.Comma role h = record { alone = refl; unequal = refl; starless = refl }
@@ -85,7 +85,7 @@ quiet_first : (k : LexemeKind) (text : List ℕ) (role : LineRole) → Belongs k
 quiet_first (lexeme.Token (token.Symbol s)) text role b h = subst (λ t. Quiet (get_or t 0 0)) (sym b) (quiet_symbol s role h)
 quiet_first _ text role b h = absurd (differ h)
 
--- a token that needs no space after it can only be continued by a `*` after a `(`
+-- A token that needs no space after it can only be continued by a `*` after a `(`.
 abbrev left_paren : LexemeKind
 left_paren = lexeme.Token (token.Symbol symbol.LeftParen)
 
@@ -100,7 +100,7 @@ direct_ends : (k : LexemeKind) (role : LineRole) (x : ℕ) → precedes_directly
 direct_ends (lexeme.Token (token.Symbol s)) role x h star = direct_symbol s role x h star
 direct_ends _ role x h star = absurd (differ h)
 
--- only the token `*` begins with `*`
+-- Only the token `*` begins with `*`.
 other_family : (text : List ℕ) (f : Family) → family (get_or text 0 0) ≡ f → (families.Mark ≡ f → ⊥) → (get_or text 0 0 == 42) ≡ false
 other_family text f e other = false_from_ne_true (get_or text 0 0 == 42) (λ h. other (sym (ap family (eqb-true (get_or text 0 0) 42 h)) ∙ e))
 
@@ -137,7 +137,8 @@ line_fits k first indent level = by_space (record { alone = refl; unequal = refl
 space_fits : (k : LexemeKind) (first : ℕ) → Fits k first (32 ∷ [])
 space_fits k first = by_space (record { alone = refl; unequal = refl; starless = refl }) (record { nonempty = omega arith; all = AllPass-from_list_all is_space (32 ∷ []) refl })
 
--- two tokens or comments; after a `(` the second one isn't a token that begins with `*`
+-- states that two lexemes are tokens or comments, and that after a `(` the second one isn't a token
+-- that begins with `*`
 record Neighbours (a b : PlacedLexeme) : Type 0 where
   left : IsSolid a.lexeme.kind
   right : IsSolid b.lexeme.kind
@@ -184,11 +185,11 @@ fits_apart a b rest _ n h (by_space {x = x} q run) more = (
   (record { belongs = run; ends = ap is_space (first_of b.lexeme rest n.right_belongs) ∙ solid_first b.lexeme.kind b.lexeme.text n.right n.right_belongs }, more),
 )
 
--- the tokens among lexemes, as a tree spells them
+-- returns the tokens among lexemes, as a tree spells them
 abbrev spelled : List Lexeme → List (spelled_as.Terminal (List ℕ))
 spelled ls = map named_lexeme (words ls)
 
--- states that the first token isn't `*`
+-- holds if the first token isn't `*`
 abbrev NoStar : List (spelled_as.Terminal (List ℕ)) → Type 0
 NoStar [] = Unit {0}
 NoStar (x ∷ xs) = is_star x ≡ false

@@ -1,4 +1,4 @@
--- The edits of gaps, one after another.
+-- Proves that the loop makes the edits of the gaps one after another.
 use Rattle.std.proofs.Common.{◌≡◌, ℕ, ◌+◌, ◌<◌, List, [], ◌∷◌, ◌++◌, length, map, take, get_or, sym, ap, ◌∙◌, arith}
 use Rattle.std.proofs.lemmas.List.{get_or-map, map-append, map_more, length-map}
 use Rattle.ob0_text.specs.declared.edits.Edit.{Edit}
@@ -9,7 +9,7 @@ use Rattle.ob0_layout.specs.declared.sites.GapSite.{GapSite}
 use Rattle.ob0_layout.specs.Cuts.{gap_cut}
 use Rattle.ob0_layout.specs.Gaps.{EditText, edit_text, edit_of}
 
--- the edit of a gap that the code found
+-- returns the edit of a gap that the code found
 abbrev pub edit_of_site : (ℕ → ℕ) → List ℕ → Indent → GapSite → EditText
 edit_of_site width content indent g = edit_of width content (gap_cut indent g)
 

@@ -1,5 +1,5 @@
--- The gaps of a text lie between its tokens and comments, and replacing them gives the formatted
--- text.
+-- Proves that the gaps of a text lie between its tokens and comments, and that replacing them gives
+-- the formatted text.
 -- Gaps that don't change can be omitted. So the length of the formatted text can be counted from
 -- the gaps that change (`changed_length`).
 use Rattle.std.proofs.Common.{◌≡◌, ℕ, ◌+◌, ◌-◌, ◌≤◌, Bool, true, false, not, cond, List, [], ◌∷◌, ◌++◌, length, take, drop, map, slice_range, refl, sym, ap, ap₂, ◌∙◌, arith, append_assoc, length-append, length-drop}
@@ -26,13 +26,14 @@ use Rattle.ob0_layout.proofs.Apart.{indented}
 use Rattle.ob0_layout.proofs.InText.{AreIn, IsAt, IsSpaced, White, all_in, no_white}
 use Rattle.ob0_layout.proofs.Pieced.{pieced_here, pieced_later, two_parts}
 
--- a gap at or after a place: it contains only white space, before and after formatting
+-- states that a gap is at or after a place and contains only white space, before and after
+-- formatting
 pub record IsGap (text : List ℕ) (at : ℕ) (c : Cut) : Type 0 where
   pub up : at ≤ c.from
   pub old : IsSpaced text c.from c.to
   pub new : White c.new
 
--- gaps in order, starting at a place
+-- holds if these are gaps in order, starting at a place
 unfoldable pub AreGaps : List ℕ → ℕ → List Cut → Type 0
 AreGaps text at [] = Unit {0}
 AreGaps text at (c ∷ cs) = IsGap text at c × AreGaps text c.to cs
@@ -84,7 +85,7 @@ module _ (text : List ℕ) where
     | false ↦ earlier at c.to (changed_gaps text cs) (omega (arith, are.0.up, are.0.old.ordered)) (changed_are c.to cs are.1)
   ]
 
-  -- gaps that don't change can be omitted
+  -- Gaps that don't change can be omitted.
   kept_or_changed : (at : ℕ) (cs : List Cut) → AreGaps text at cs → pieced text at (changed_gaps text cs) ≡ pieced text at cs
   unfolding pieced AreGaps
   kept_or_changed at [] are = refl
@@ -132,7 +133,8 @@ module _ (text : List ℕ) where
     unfolding pieced
     nothing_after = drop-length text
 
-    -- a token or comment, then the gaps after it
+    -- A token or comment and the gaps after it give the token or comment and the formatted lexemes
+    -- after it.
     over : (b : PlacedLexeme) (bs : List PlacedLexeme) → IsAt text b → AreIn text b.span.end bs → pieced text b.span.end (gaps_after indent (length text) b bs) ≡ joined (laid_after indent b bs)
         → pieced text b.span.start (gaps_after indent (length text) b bs) ≡ joined (b.lexeme ∷ laid_after indent b bs)
     over b bs is h more =

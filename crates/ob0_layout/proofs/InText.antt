@@ -1,6 +1,6 @@
--- Tokens and comments in their text: they are in order, with only white space before, between and
--- after them.
--- None begins or ends inside a line ending.
+-- Proves that the tokens and comments in their text are in order, with only white space before,
+-- between and after them.
+-- No token or comment begins or ends inside a line ending.
 use Rattle.std.proofs.Common.{◌≡◌, ℕ, ◌+◌, ◌-◌, ◌≤◌, Bool, true, false, ◌||◌, List, [], ◌∷◌, ◌++◌, length, take, drop, get_or, slice_range, sym, ap, ◌∙◌, subst, arith, append_assoc, append-nil, length-drop}
 use Rattle.std.proofs.Math.Seq.{take-append-add}
 use Rattle.std.specs.List.{AllPass}
@@ -35,13 +35,12 @@ pub record IsSpaced (text : List ℕ) (from to : ℕ) : Type 0 where
   pub start : IsBorder text from
   pub end : IsBorder text to
 
--- states that a token or comment is at its place
+-- states that a token or comment is at its place in a text
 pub record IsAt (text : List ℕ) (a : PlacedLexeme) : Type 0 where
   pub ordered : a.span.start ≤ a.span.end
   pub here : spanned text a.span ≡ a.lexeme.text
 
--- states that the text from this place has these tokens and comments, and otherwise only white
--- space
+-- holds if the text from this place has these tokens and comments, and otherwise only white space
 unfoldable pub AreIn : List ℕ → ℕ → List PlacedLexeme → Type 0
 AreIn text from [] = IsSpaced text from (length text)
 AreIn text from (a ∷ bs) = IsSpaced text from a.span.start × IsAt text a × AreIn text a.span.end bs
@@ -79,7 +78,7 @@ module _ (text : List ℕ) where
       at_zero : (n : ℕ) → n ≡ n + 0
       at_zero n = omega arith
 
-  -- white space, then more white space after it
+  -- White space followed by white space is white space.
   longer : (from at : ℕ) (t rest : List ℕ) → from ≤ at → drop at text ≡ t ++ rest → White (slice_range text from at) → White t → White (slice_range text from (at + length t))
   longer from at t rest up here w v =
       let size : at + length t - at ≡ length t + 0 = omega arith in
@@ -91,7 +90,8 @@ module _ (text : List ℕ) where
   empty : (at : ℕ) → White (slice_range text at at)
   empty at = subst White (sym (none_taken at (drop at text))) no_white
 
-  -- the lexemes placed after a border, if only white space precedes them
+  -- holds if the lexemes placed after a border are in the text, provided that only white space
+  -- precedes them
   abbrev Placed : ℕ → List Lexeme → Type 0
   Placed at rest = (from level : ℕ) (broken : Bool) (ss : List LineRole) → from ≤ at → IsBorder text from → White (slice_range text from at) → AreIn text from (placed at level broken ss rest)
 
@@ -121,7 +121,7 @@ module _ (text : List ℕ) where
 pub from_start : (s : Scanned) (scan : IsScan s) → LexemesFrom s.text 0 scan.lexemes []
 from_start s scan = record { utf8 = scan.utf8; place = IsCharBoundary-start s.text scan.utf8; each = scan.lexed.each; rest = sym (append-nil (joined scan.lexemes) ∙ scan.lexed.whole) }
 
--- a scanned text has its tokens and comments
+-- A scanned text has its tokens and comments.
 pub all_in : (s : Scanned) (scan : IsScan s) (ss : List LineRole) → AreIn s.text 0 (placed 0 0 true ss scan.lexemes)
 all_in s scan ss =
     let border : IsBorder s.text 0 = record { place = IsCharBoundary-start s.text scan.utf8; clear = λ ending. omega (arith, ending.cr, ending.lf, ap (λ n. get_or s.text n 0) zero_less) } in

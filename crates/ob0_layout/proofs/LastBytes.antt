@@ -1,4 +1,4 @@
--- No token or comment ends with CR.
+-- Proves that no token or comment ends with CR.
 use Rattle.std.proofs.Common.{◌≡◌, ℕ, zero, suc, ◌-◌, ◌<◌, Bool, true, false, List, [], ◌∷◌, length, get_or, take, refl, sym, ap, ◌∙◌, subst, arith, inl, inr, eqb-true, ◌==◌}
 use Rattle.std.specs.List.{AllPass}
 use Rattle.std.specs.Char.{is_ascii_alphanumeric, is_ascii_digit}
@@ -17,7 +17,7 @@ use Rattle.ob0_scan.proofs.Closings.{Ends, ends_from_comment, counts_other, afte
 use Rattle.ob0_scan.proofs.Cuts.{nonempty}
 use Rattle.ob0_layout.proofs.Apart.{IsSolid}
 
--- the last byte, or 0 if there is none
+-- returns the last byte, or 0 if there is none
 abbrev pub last_byte : List ℕ → ℕ
 last_byte [] = 0
 last_byte (a ∷ []) = a
@@ -58,7 +58,7 @@ marks_some c (d ∷ v) = elim (cases_Bool (is_opening_pair c d)) [
   ]
 ]
 
--- a text that closes open comments ends with `)`
+-- A text that closes open comments ends with `)`.
 closed_last : (depth : ℕ) (w : List ℕ) → 0 < depth → Ends depth (marks w) → last_byte w ≡ 41
 unfolding marks
 closed_last depth [] some h = absurd (omega (arith, h.balanced))

@@ -1,4 +1,4 @@
--- A formatted text is a text of the same module.
+-- Proves that a formatted text is a text of the same module.
 use Rattle.std.proofs.Common.{◌≡◌, ℕ, List, map, refl, ap, ◌∙◌, subst}
 use Rattle.ob0_scan.specs.Lexed.{joined, Lexed}
 use Rattle.ob0_scan.specs.Scanned.{Scanned, IsScan, words}
@@ -19,7 +19,7 @@ module _ (indent : Indent) (s : Scanned) (scan : IsScan s) (tree : Tree (List �
       let apart = (lexed_by_next_bytes s.text scan.lexemes).0 scan.lexed in
       (lexed_by_next_bytes (layout indent tree scan.lexemes) (laid_out indent tree scan.lexemes)).1 (refl, laid_out_apart indent tree scan.lexemes (spelled_words s scan tree m) apart.1)
 
-  -- the lexemes of a formatted text are the formatted lexemes
+  -- The lexemes of a formatted text are the formatted lexemes.
   pub same_lexemes : (t : Scanned) (again : IsScan t) → t.text ≡ layout indent tree scan.lexemes → again.lexemes ≡ laid_out indent tree scan.lexemes
   same_lexemes t again e = one_cut (layout indent tree scan.lexemes) again.lexemes (laid_out indent tree scan.lexemes) (subst (λ x. Lexed x again.lexemes) e again.lexed) laid_out_lexed
 

@@ -1,4 +1,4 @@
--- The tokens of a text are the words of its lexemes.
+-- Proves that the tokens of a text are the words of its lexemes.
 use Rattle.std.proofs.Common.{◌≡◌, ℕ, List, [], ◌∷◌, map, refl, sym, ap, ◌∙◌}
 use Rattle.ob0_scan.specs.declared.lexeme.Token.{Token}
 use Rattle.ob0_scan.specs.Scanned.{Scanned, IsScan, Word, words, read_in}
@@ -7,7 +7,7 @@ use Rattle.ob0_tree.specs.Tree.{Tree, module_text, spell}
 use Rattle.ob0_tree.specs.Module.{ModuleOf, token_lexeme, text_lexemes}
 use Rattle.ob0_scan.proofs.Spans.{scan_words}
 
--- a word as a tree spells it; an identifier is spelled by its text
+-- returns a word as a tree spells it; an identifier is spelled by its text
 abbrev pub named_lexeme : Word → Terminal (List ℕ)
 named_lexeme w = kind_lexeme w.text w.kind
 

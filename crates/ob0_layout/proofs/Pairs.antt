@@ -1,4 +1,4 @@
--- In a tree's spelling no `*` comes directly after a `(`.
+-- Proves that in a tree's spelling no `*` comes directly after a `(`.
 use Rattle.std.proofs.Common.{◌≡◌, Bool, true, false, Option, Some, None, List, [], ◌∷◌, ◌++◌, refl, sym, ap, subst}
 use Rattle.ob0_scan.specs.declared.lexeme.Symbol.TheVariants as symbol
 use Rattle.ob0_tree.specs.declared.tree.Relation.{Relation}
@@ -32,7 +32,7 @@ calm_append calm_end q = q
 calm_append (calm_next h p) q = calm_next h (calm_append p q)
 calm_append (calm_paren h p) q = calm_paren h (calm_append p q)
 
--- states that the first token isn't `*`
+-- states that there is a first token and that it isn't `*`
 record Starts {N : Type 0} (xs : List (Terminal N)) : Type 0 where
   first : Terminal N
   rest : List (Terminal N)

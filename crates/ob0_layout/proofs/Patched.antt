@@ -1,4 +1,4 @@
--- The edits of the gaps, applied together, give the formatted text.
+-- Proves that the edits of the gaps, applied together, give the formatted text.
 use Rattle.std.proofs.Common.{◌≡◌, ℕ, zero, suc, ◌-◌, ◌<◌, true, Some, List, [], ◌∷◌, ◌++◌, take, drop, map, ap, ◌∙◌, sym, subst, arith, string_bytes}
 use Rattle.std.specs.Str.{IsUtf8, IsCharBoundary, chars, IsAscii}
 use Rattle.std.proofs.lemmas.Str.{IsUtf8-from_ascii, IsUtf8-append, IsUtf8-drop, IsUtf8-between}
@@ -20,7 +20,7 @@ use Rattle.ob0_layout.specs.Gaps.{all_gaps, changed_gaps, edit_text, edit_of}
 use Rattle.ob0_layout.proofs.Gaps.{AreGaps, all_are, all_changed_are, all_made, chain, changed_made}
 use Rattle.ob0_layout.proofs.InText.{White, from_start}
 
--- white space is ASCII
+-- White space is ASCII.
 space_low : (b : ℕ) → is_space b ≡ true → b < 128
 space_low b e = grind (arith, nat_tests)
 
@@ -32,7 +32,7 @@ white_utf8 t w = IsUtf8-from_ascii t (low t w)
     low (b ∷ bs) w zero = space_low b (All-head (λ x. is_space x ≡ true) b bs w)
     low (b ∷ bs) w (suc i) = low bs (All-tail (λ x. is_space x ≡ true) b bs w) i
 
--- the cuts of the edits are the cuts of the gaps
+-- The cuts of the edits are the cuts of the gaps.
 same_cuts : (unit : counting.Unit) (text : List ℕ) (u : IsUtf8 text) (at : ℕ) (cs : List Cut) (edits : List Edit) → AreGaps text at cs
     → map edit_text edits ≡ map (edit_of (width_of unit) (chars text)) cs → AreSame unit text u cs (cuts_of (width_of unit) (chars text) edits)
 unfolding AreGaps AreSame

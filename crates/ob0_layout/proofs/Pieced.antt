@@ -1,4 +1,4 @@
--- The result of replacing several cuts of a text, one after another.
+-- Proves the result of replacing several cuts of a text, one after another.
 use Rattle.std.proofs.Common.{◌≡◌, ℕ, ◌+◌, ◌-◌, ◌≤◌, List, [], ◌∷◌, ◌++◌, take, drop, sym, ap, ◌∙◌, arith, append_assoc}
 use Rattle.std.proofs.Math.Seq.{take-add}
 use Rattle.std.proofs.lemmas.List.{drop-drop, take-append-drop}
@@ -15,7 +15,7 @@ two_parts text a b c h k =
     ap (λ n. take n (drop a text)) long ∙ take-add (b - a) (c - b) (drop a text)
     ∙ ap (λ xs. take (b - a) (drop a text) ++ take (c - b) xs) (drop-drop (b - a) a text ∙ ap (λ n. drop n text) there)
 
--- the pieces may be counted from a later place
+-- The pieces may be counted from a later place.
 pub pieced_later : (text : List ℕ) (a b : ℕ) (cs : List Cut) → a ≤ b → Chain b cs → pieced text a cs ≡ take (b - a) (drop a text) ++ pieced text b cs
 unfolding pieced
 pieced_later text a b [] h chain =

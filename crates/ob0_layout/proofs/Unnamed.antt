@@ -1,4 +1,4 @@
--- The line roles of a tree don't depend on its names.
+-- Proves that the line roles of a tree don't depend on its names.
 use Rattle.std.proofs.Common.{◌≡◌, ℕ, [], ◌∷◌, ◌++◌, refl}
 use Rattle.ob0_tree.specs.Tree.{Sort, Tree, one, more, compares, relates, sum, adds, product, multiplies, designator, parenthesised, negation, index, assigns, calls, branches, while_loop, repeat_loop, some_arguments, then_argument, runs, then_statement, elsif_branch, else_branch, listed, array_type, record_type, some_fields, then_fields, some_formals, value_section, variable_section, then_section, declares_constant, declares_constants, declares_type, declares_types, declares_variable, declares_variables, declares_procedure, declares, begins, has_body, is_module, mapped}
 use Rattle.ob0_layout.specs.declared.line_role.LineRole.TheVariants.{Begins, Opening, Plain}

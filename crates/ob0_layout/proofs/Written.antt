@@ -1,4 +1,4 @@
--- Bytes that are the text of a gap.
+-- Proves that the code's tests say if bytes are the text of a gap.
 use Rattle.std.proofs.Common.{◌≡◌, ℕ, ◌*◌, ◌&&◌, List, [], ◌∷◌, length, replicate, refl, ap, ◌∙◌}
 use Rattle.std.specs.Prelude.{bytes_eq, ◌==◌}
 use Rattle.std.proofs.lemmas.List.{length-replicate}
@@ -6,7 +6,7 @@ use Rattle.ob0_text.specs.declared.edits.Indent.TheVariants as indent_by
 use Rattle.ob0_layout.specs.Cuts.{all_are}
 use Rattle.ob0_layout.specs.Layout.{indentation}
 
--- bytes that are all b are a run of b of the same length
+-- Bytes that are all b are a run of b of the same length.
 pub run_of : (b : ℕ) (bs : List ℕ) → all_are b bs ≡ bytes_eq bs (replicate (length bs) b)
 run_of b [] = refl
 run_of b (c ∷ cs) = ap (λ t. (c == b) && t) (run_of b cs)

@@ -1,4 +1,4 @@
--- The gaps of a text: before, between and after its tokens and comments.
+-- Defines the gaps of a text: before, between and after its tokens and comments.
 -- Rule: docs/PROTOCOL.md, Requests on documents 8.
 use Rattle.std.specs.Prelude.{ℕ, ◌+◌, ◌-◌, Bool, true, not, bytes_eq, List, [], ◌∷◌, length, filter, slice_range, string_bytes}
 use Rattle.std.specs.List.{AllPass}
@@ -12,21 +12,22 @@ use Rattle.ob0_text.specs.Texts.{position_of}
 use Rattle.ob0_layout.specs.declared.line_role.LineRole.{LineRole}
 use Rattle.ob0_layout.specs.Layout.{PlacedLexeme, placed, gap}
 
--- The gaps after a token or comment, given the tokens and comments that follow it and the length of
--- the text. Each has its text after formatting; the text ends with a line break
+-- Returns the gaps after a token or comment, given the tokens and comments that follow it and the
+-- length of the text in bytes. Each gap has its text after formatting. The text ends with a line
+-- break.
 abbrev pub gaps_after : Indent → ℕ → PlacedLexeme → List PlacedLexeme → List Cut
 gaps_after indent len a [] = record { from = a.span.end; to = len; new = 10 ∷ [] } ∷ []
 gaps_after indent len a (b ∷ bs) =
     record { from = a.span.end; to = b.span.start; new = gap indent a b }
     ∷ gaps_after indent len b bs
 
--- all gaps of a text; nothing may precede its first token or comment
+-- returns all gaps of a text; the gap before its first token or comment becomes empty
 abbrev pub gaps : Indent → ℕ → List PlacedLexeme → List Cut
 gaps indent len [] = record { from = 0; to = len; new = [] } ∷ []
 gaps indent len (a ∷ bs) =
     record { from = 0; to = a.span.start; new = [] } ∷ gaps_after indent len a bs
 
--- the gaps of a text that is cut into these lexemes; `ss` are the roles of its tokens
+-- returns the gaps of a text that is cut into these lexemes; `ss` are the roles of its tokens
 abbrev pub all_gaps : Indent → List ℕ → List LineRole → List Lexeme → List Cut
 all_gaps indent text ss lexemes = gaps indent (length text) (placed 0 0 true ss lexemes)
 
@@ -34,7 +35,7 @@ all_gaps indent text ss lexemes = gaps indent (length text) (placed 0 0 true ss 
 abbrev pub is_changed : List ℕ → Cut → Bool
 is_changed text c = not (bytes_eq (slice_range text c.from c.to) c.new)
 
--- the gaps that formatting changes
+-- returns the gaps that formatting changes
 abbrev pub changed_gaps : List ℕ → List Cut → List Cut
 changed_gaps text cs = filter (is_changed text) cs
 
@@ -43,7 +44,7 @@ pub record EditText : Type 0 where
   pub range : Range
   pub text : List ℕ
 
--- the edit of a gap, which replaces the whole gap
+-- returns the edit of a gap, which replaces the whole gap
 abbrev pub edit_of : (ℕ → ℕ) → List ℕ → Cut → EditText
 edit_of width content c = record {
   range =
@@ -51,15 +52,15 @@ edit_of width content c = record {
   text = c.new;
 }
 
--- the content of an edit of the code
+-- returns the content of an edit of the code
 abbrev pub edit_text : Edit → EditText
 edit_text e = record { range = e.range; text = string_bytes e.text }
 
--- the length of the text from offset `at` after these gaps are formatted
+-- returns the length in bytes of the text from offset `at` after these gaps are formatted
 abbrev pub laid_len : ℕ → ℕ → List Cut → ℕ
 laid_len len at [] = len - at
 laid_len len at (c ∷ cs) = (c.from - at) + (length c.new + laid_len len c.to cs)
 
--- states that a gap of a text contains only white space
+-- holds if a gap of a text contains only white space
 abbrev pub IsWhite : List ℕ → Cut → Type 0
 IsWhite text c = AllPass is_space (slice_range text c.from c.to)

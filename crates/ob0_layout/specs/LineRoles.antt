@@ -1,4 +1,4 @@
--- The roles of a tree's tokens in their lines.
+-- Defines the roles of a tree's tokens in their lines.
 -- Rule: docs/LANGUAGE.md, Layout 2 to 4.
 use Rattle.std.specs.Prelude.{ℕ, ◌+◌, min, Bool, true, false, Option, Some, None, List, [], ◌∷◌, ◌++◌}
 use Rattle.ob0_tree.specs.declared.tree.Sign.{Sign}
@@ -6,30 +6,31 @@ use Rattle.ob0_tree.specs.Tree.{Sort, Tree, none, one, end, more, compares, rela
 use Rattle.ob0_layout.specs.declared.line_role.LineRole.{LineRole}
 use Rattle.ob0_layout.specs.declared.line_role.LineRole.TheVariants.{Begins, Opening, Joining, Plain}
 
--- The next level. Levels are 32-bit numbers; a module's levels are far below the greatest one.
+-- Returns the next level. Levels are 32-bit numbers; a module's levels are far below the greatest
+-- one.
 abbrev pub deeper : ℕ → ℕ
 deeper k = min (k + 1) 4294967295
 
--- the roles of some tokens if the first of them begins a line of this level
+-- returns the roles of some tokens if the first of them begins a line of this level
 abbrev pub in_line : ℕ → List LineRole → List LineRole
 in_line level [] = []
 in_line level (s ∷ ss) = Begins level ∷ ss
 
--- the role of an optional sign, after which no space comes
+-- returns the role of an optional sign, after which no space comes
 abbrev pub sign_role : Option Sign → List LineRole
 sign_role None = []
 sign_role (Some s) = Joining ∷ []
 
--- the role of the separator before an item of a list; the first item has none
+-- returns the role of the separator before an item of a list; the first item has none
 abbrev pub separated : Bool → List LineRole
 separated true = []
 separated false = Plain ∷ []
 
--- The role of each token of a tree, in text order. The level is the block's, or in a sequence the
--- level of its statements. The module has level 0, and a procedure one level more than the block
--- that declares it. The statements of a body have one level more than its block, and statements
--- inside a statement one more than that statement. Constructs within a line have no level: 0 is
--- passed for them.
+-- Returns the role of each token of a tree, in text order. The level is the block's, or in a
+-- sequence the level of its statements. The module has level 0, and a procedure one level more than
+-- the block that declares it. The statements of a body have one level more than its block, and
+-- statements inside a statement one more than that statement. Constructs within a line have no
+-- level: 0 is passed for them.
 abbrev pub line_roles : {N : Type 0} {s : Sort} → ℕ → Tree N s → List LineRole
 line_roles k none = []
 line_roles k (one t) = line_roles k t

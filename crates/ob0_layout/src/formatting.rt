@@ -1,4 +1,4 @@
-//! The edits that format a module's text.
+//! Formats a module's text by edits.
 
 ghost use Rattle.std.specs.Prelude.{◌≡◌, ◌≤◌, ◌<◌, ◌⊎◌, ◌↔◌, IsTrue, Some, IfOk, IfErr, IsErrOf, map, length};
 ghost use Rattle.std.specs.List.{All};
@@ -20,7 +20,7 @@ use ob0_text::{Edit, EditRefusal, Indent, Range, TextStore};
 use ob0_tree::Module;
 use std::alloc::{AllocError, Global};
 
-/// Returns one edit for each gap that formatting changes, in text order; each edit replaces a whole
+/// Returns one edit for each gap that formatting changes, in text order. Each edit replaces a whole
 /// gap. `store` must hold the text of the module. Applied together to that text, the edits give the
 /// formatted text. Fails with `TooLong` if the formatted text would exceed the limit of a text, and
 /// with `Memory` if an allocation fails.
@@ -56,7 +56,7 @@ pub fn format<T: TextStore>(
     Ok(edits(alloc, store, &sites, indent)?)
 }
 
-/// True if a text of this length doesn't exceed the limit after these gaps are formatted.
+/// Returns true if a text of `len` bytes doesn't exceed the limit after these gaps are formatted.
 fn fits(sites: &[GapSite], len: usize, indent: Indent) -> bool
     requires length { len ≤ max_text }
     requires within { All (LiesIn len) sites.now }
@@ -75,7 +75,7 @@ fn fits(sites: &[GapSite], len: usize, indent: Indent) -> bool
     made + len.saturating_sub(at) <= MAX_TEXT
 }
 
-/// Returns the edits for these gaps.
+/// Returns the edits that format these gaps, in the same order.
 fn edits<T: TextStore>(
     alloc: Global,
     store: &T,

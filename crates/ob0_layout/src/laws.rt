@@ -1,4 +1,4 @@
-//! The laws of formatting. Each function has an empty body: its contract is the law.
+//! States the laws of formatting. Each function has an empty body: its contract is the law.
 
 ghost use Rattle.std.specs.Prelude.{◌≡◌, ℕ, List, length};
 ghost use Rattle.std.specs.List.{All, AllPass};
@@ -14,7 +14,7 @@ ghost use Rattle.ob0_layout.specs.Layout.{solid, laid_out, layout};
 ghost use Rattle.ob0_layout.specs.Gaps.{IsWhite, all_gaps, changed_gaps, laid_len};
 ghost use Rattle.ob0_layout.specs.LineRoles.{line_roles};
 
-/// States that a formatted text is cut into the formatted lexemes, and has the same tokens and
+/// Proves that a formatted text is cut into the formatted lexemes, and has the same tokens and
 /// comments as the original.
 pub fn lexemes_stay()
     ensures lexed { (indent : Indent) (s : Scanned) (scan : IsScan s)
@@ -27,14 +27,14 @@ pub fn lexemes_stay()
         → solid (laid_out indent tree scan.lexemes) ≡ solid scan.lexemes }
 {}
 
-/// States that a formatted text, once it is scanned, is a text of the same module.
+/// Proves that a formatted text, once it is scanned, is a text of the same module.
 pub fn module_stays()
     ensures { (indent : Indent) (s : Scanned) (scan : IsScan s) (tree : Tree (List ℕ) module_text)
         → ModuleOf s tree
         → (t : Scanned) → IsScan t → t.text ≡ layout indent tree scan.lexemes → ModuleOf t tree }
 {}
 
-/// States that formatting a formatted text changes nothing.
+/// Proves that formatting a formatted text changes nothing.
 pub fn laid_out_once()
     ensures { (indent : Indent) (s : Scanned) (scan : IsScan s) (tree : Tree (List ℕ) module_text)
         → ModuleOf s tree
@@ -42,8 +42,8 @@ pub fn laid_out_once()
         → layout indent tree again.lexemes ≡ layout indent tree scan.lexemes }
 {}
 
-/// States that replacing the gaps that change gives the formatted text, that this is UTF-8, and
-/// that the counted length is its length.
+/// Proves that replacing the gaps that change gives the formatted text, that this text is UTF-8,
+/// and that the counted length is its length.
 pub fn gaps_make_the_layout()
     ensures utf8 { (indent : Indent) (s : Scanned) (scan : IsScan s)
         (tree : Tree (List ℕ) module_text)
@@ -60,7 +60,7 @@ pub fn gaps_make_the_layout()
         ≡ length (layout indent tree scan.lexemes) }
 {}
 
-/// States that formatting changes only white space: the gaps of a text and their new texts contain
+/// Proves that formatting changes only white space: the gaps of a text and their new texts contain
 /// nothing else.
 pub fn gaps_are_white_space()
     ensures before { (indent : Indent) (s : Scanned) (scan : IsScan s)

@@ -1,4 +1,4 @@
-//! Formatting of a module: the tokens that begin a line, and the edits that give the formatted
+//! Formats a module: finds the tokens that begin a line, and the edits that give the formatted
 //! text.
 #![tactic(auto)]
 

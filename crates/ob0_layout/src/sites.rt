@@ -1,7 +1,7 @@
-//! The gaps of a text, each with its text after formatting.
+//! Finds the gaps of a text that formatting changes.
 //!
-//! One pass over tokens and comments stores only the gaps that change. No text is built for
-//! comparing gaps.
+//! One pass over tokens and comments stores only the gaps that change. Gaps are compared without
+//! building their texts.
 
 ghost use Rattle.std.specs.Prelude.{◌≡◌, ◌||◌, ◌==◌, ◌++◌, ◌∷◌, [], IfOk, OnOk, is_none, drop, length, map};
 ghost use Rattle.ob0_scan.specs.Scanned.{IsScan};
@@ -15,7 +15,7 @@ use ob0_scan::{LexemeKind, Span, Token, Tokens};
 use ob0_text::Indent;
 use std::alloc::{AllocError, Global};
 
-/// A gap of a text: its start, its end, and its form after formatting.
+/// A gap of a text: its start and end in bytes, and its form after formatting.
 #[derive(Clone, Copy)]
 pub struct GapSite {
     pub start: usize,
@@ -37,7 +37,7 @@ pub enum NextLexeme {
     Comment(Span),
 }
 
-/// Returns the gaps of a text that formatting changes, in text order; `roles` are the roles of its
+/// Returns the gaps of a text that formatting changes, in text order. `roles` are the roles of its
 /// tokens.
 pub fn changed_sites(
     alloc: Global,
@@ -107,7 +107,7 @@ fn add(
     Ok(())
 }
 
-/// True if formatting changes this gap.
+/// Returns true if formatting changes this gap.
 fn is_changed(text: &[u8], site: GapSite, indent: Indent) -> bool
     requires { LiesIn (length text.now) site }
     ensures { result ≡ is_changed text.now (gap_cut indent site) }
@@ -115,7 +115,7 @@ fn is_changed(text: &[u8], site: GapSite, indent: Indent) -> bool
     !site.gap.is_text(&text[site.start..site.end], indent)
 }
 
-/// Returns the first of the remaining tokens and comments.
+/// Returns the first of the remaining tokens and comments. None if none remains.
 fn next_of(left: &[Token], comments: &[Span]) -> Option<NextLexeme>
     ensures { result ≡ next_of left.now comments.now }
 {
@@ -145,7 +145,8 @@ fn gap_before(before: Option<Solid>, kind: LexemeKind, role: LineRole) -> Gap
     }
 }
 
-/// Returns the gap after the last token or comment.
+/// Returns the gap after the last token or comment: a line feed, or nothing if the text has
+/// neither.
 fn last_gap(before: Option<Solid>) -> Gap
     ensures { result ≡ last_gap before }
 {
@@ -200,14 +201,14 @@ fn comment_role(broken: bool, level: u32) -> LineRole
     }
 }
 
-/// True if a gap has a line break. The start of the text counts as a line break.
+/// Returns true if a gap has a line break. The start of the text counts as a line break.
 fn begins_line(before: Option<Solid>, gap: &[u8]) -> bool
     ensures { result ≡ (is_none before || has_break gap.now) }
 {
     before.is_none() || has_break(gap)
 }
 
-/// True if white space contains a line feed or a carriage return.
+/// Returns true if white space contains a line feed or a carriage return.
 fn has_break(gap: &[u8]) -> bool
     ensures { result ≡ has_break gap.now }
 {

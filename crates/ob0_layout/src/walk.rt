@@ -1,4 +1,4 @@
-//! The walk over a module that gives each of its tokens its role in a line.
+//! Visits a module and gives each of its tokens its role in a line.
 
 ghost use Rattle.std.specs.Prelude.{◌≡◌, ◌++◌, ◌∷◌, [], IfOk};
 ghost use Rattle.ob0_layout.specs.declared.line_role.LineRole.TheVariants.{Begins, Plain};
@@ -37,7 +37,7 @@ fn deeper(level: u32) -> u32
     level.saturating_add(1)
 }
 
-/// Adds a token whose gaps depend only on its kind.
+/// Appends the role of a token whose gaps depend only on its kind.
 fn plain(out: &mut Vec<LineRole>) -> Result<(), AllocError>
     ensures { IfOk result (λ _. out.new.items ≡ out.old.items ++ (Plain ∷ [])) }
 {
@@ -150,7 +150,7 @@ fn selector(out: &mut Vec<LineRole>, s: &Selector) -> Result<(), AllocError>
     }
 }
 
-/// Adds the separator before an item of a list, unless the item is the first one.
+/// Appends the role of the separator before an item of a list, unless the item is the first one.
 fn separator(out: &mut Vec<LineRole>, first: bool) -> Result<(), AllocError>
     ensures { IfOk result (λ _. out.new.items ≡ out.old.items ++ separated first) }
 {
@@ -160,7 +160,7 @@ fn separator(out: &mut Vec<LineRole>, first: bool) -> Result<(), AllocError>
     Ok(())
 }
 
-/// Adds statements of this level, with a `;` between any two of them.
+/// Appends the roles of statements of this level, with a `;` between any two of them.
 #[cycle(statements)]
 fn sequence(
     out: &mut Vec<LineRole>,
@@ -205,7 +205,7 @@ fn statement(out: &mut Vec<LineRole>, level: u32, s: &Statement) -> Result<(), A
     }
 }
 
-/// Adds a token that begins a line of this level.
+/// Appends the role of a token that begins a line of this level.
 fn begin(out: &mut Vec<LineRole>, level: u32) -> Result<(), AllocError>
     ensures { IfOk result (λ _. out.new.items ≡ out.old.items ++ (Begins level ∷ [])) }
 {
@@ -282,7 +282,7 @@ fn elsifs(out: &mut Vec<LineRole>, level: u32, parts: &Vec<Elsif>) -> Result<(),
     Ok(())
 }
 
-/// Adds a list of names; `first` is the role of the first one.
+/// Appends the roles of a list of names; `first` is the role of the first name.
 fn names(out: &mut Vec<LineRole>, first: LineRole, ns: &Names) -> Result<(), AllocError>
     ensures { IfOk result (λ _. out.new.items
         ≡ out.old.items ++ (first ∷ line_roles 0 (items_of then_name ns.now.more.items))) }
@@ -367,7 +367,7 @@ fn section(out: &mut Vec<LineRole>, s: &Section) -> Result<(), AllocError>
     written_type(out, &s.written)
 }
 
-/// Adds the constants of a block of this level.
+/// Appends the roles of the constants of a block of this level.
 fn constants(
     out: &mut Vec<LineRole>,
     level: u32,
@@ -448,7 +448,7 @@ fn body(
     }
 }
 
-/// Adds a block of this level.
+/// Appends the roles of a block of this level.
 #[cycle(blocks)]
 fn block(out: &mut Vec<LineRole>, level: u32, b: &Block) -> Result<(), AllocError>
     ensures { IfOk result
@@ -463,7 +463,7 @@ fn block(out: &mut Vec<LineRole>, level: u32, b: &Block) -> Result<(), AllocErro
     body(out, level, &b.body)
 }
 
-/// Adds a procedure that a block of this level declares.
+/// Appends the roles of a procedure that a block of this level declares.
 #[cycle(blocks)]
 fn procedure(out: &mut Vec<LineRole>, level: u32, p: &Procedure) -> Result<(), AllocError>
     ensures { IfOk result

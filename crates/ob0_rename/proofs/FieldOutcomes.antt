@@ -1,6 +1,7 @@
--- The answer for a field: a refusal because of another field of its record, or the edits.
--- `field_there`: the tree with the new name at the tokens of a field is the module with the field
--- renamed. If the new name is the old one, each of these tokens already has it (`written-so`).
+-- Proves the answer for a field: a refusal because of another field of its record, or the edits.
+-- By `field_there`, the tree with the new name at the tokens of a field is the module with the
+-- field renamed. If the new name is the old one, each of these tokens already has it
+-- (`written-so`).
 use Rattle.std.proofs.Common.{◌≡◌, ℕ, ◌<◌, Bool, true, false, not, is_some, ◌&&◌, ◌||◌, ◌==◌, if◌then◌else◌, Option, Some, None, Result, Ok, Err, Vec, List, [], ◌∷◌, length, option_map, inl, inr, refl, sym, ap, ◌∙◌, subst, arith, eqb-true}
 use Rattle.std.specs.List.{list_any}
 use Rattle.std.specs.declared.alloc.Global.{Global}
@@ -37,7 +38,7 @@ among-any : (k : ℕ) (places : List ℕ) → is_among k places ≡ list_any (λ
 among-any k [] = refl
 among-any k (p ∷ ps) = ap (λ b. (k == p) || b) (among-any k ps)
 
--- each token of a field has the field's name
+-- Each token of a field has the field's name.
 written-so : (source : Scanned) (k : ℕ) (f : Name) (i : ℕ) (xs : List FieldName) → list_any (λ token. i == token) (tokens_among source k f xs) ≡ true → place.text_at source i ≡ f
 written-so source k f i [] e = absurd (cc)
 written-so source k f i (x ∷ xs) e = one (x.owner == k) (same_name (place.text_at source x.token) f) refl (written-so source k f i xs) e
@@ -112,7 +113,7 @@ module _ (unit : counting.Unit) (text : List ℕ) (place : Position) (new : Name
         | inr e ↦ inl e
       ]
 
-  -- renaming to the present name doesn't make the text too long
+  -- Renaming a field to its present name doesn't make the text too long.
   pub own_field_answered : (r : Resolution) → IsScan r.module_read.source → new ≡ f
       → (result : Result (Vec Edit Global) EditRefusal) → Edited unit text new r.module_read.source (field_tokens_to_rename r k f new) result → OnlyMemory result
   own_field_answered r scan own (Ok edits) made = tt

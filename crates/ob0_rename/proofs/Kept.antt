@@ -1,4 +1,4 @@
--- Renaming a declaration to its own name leaves the module unchanged.
+-- Proves that renaming a declaration to its own name leaves the module unchanged.
 use Rattle.std.proofs.Common.{◌≡◌, ℕ, suc, ◌+◌, ◌≤◌, ◌<◌, ◌==◌, ◌&&◌, Bool, true, false, if◌then◌else◌, Some, List, [], ◌∷◌, ◌++◌, slice_get, refl, sym, ◌∙◌, subst, arith, eqb-true}
 use Rattle.std.proofs.lemmas.Bool.{and_parts}
 use Rattle.std.proofs.lemmas.Slice.Eq.{bytes_eq-Decides}
@@ -13,7 +13,7 @@ use Rattle.ob0_language_names.proofs.SameNames.{with_names-id}
 use Rattle.ob0_scope_table.proofs.Declared.{after_names_in_procedure, names_in, names_in_procedure, names_in_procedures}
 
 module _ (d : ℕ) (new : Name) where
-  -- states that the declaration with the ordinal d has the new name
+  -- holds if the name x has the ordinal d only if it is the new name
   abbrev pub IsSo : ℕ → Name → Type 0
   IsSo k x = (k == d) ≡ true → x ≡ new
 
@@ -165,7 +165,7 @@ module _ (d : ℕ) (new : Name) where
       let inside = block-kept (predeclared_scope as_names) 7 [] b (predeclared-so high) h onces.1 in
       λ i. is_module x (inside i) closing
 
--- all names satisfy this if the one at d's place does
+-- The property holds of all names if it holds of the name with the ordinal d.
 pub so_where : (d : ℕ) (new : Name) (k : ℕ) (xs : List Name) → ((j : ℕ) (x : Name) → slice_get xs j ≡ Some x → k + j ≡ d → x ≡ new) → AreSo d new k xs
 so_where d new k [] h = tt
 so_where d new k (x ∷ xs) h = ((λ e. h 0 x refl (omega (arith, eqb-true k d e))), so_where d new (suc k) xs (λ j y e count. h (suc j) y e (omega (arith, count))))

@@ -1,4 +1,4 @@
--- Places of names, as a list of identifiers in ascending order.
+-- Proves that the places of names are identifiers in ascending order.
 use Rattle.std.proofs.Common.{◌≡◌, ℕ, suc, ◌+◌, ◌==◌, ◌||◌, Result, Ok, Err, Vec, List, [], ◌∷◌, length, refl, ap, arith}
 use Rattle.std.specs.Prelude.{IfOk}
 use Rattle.std.specs.declared.alloc.Global.{Global}

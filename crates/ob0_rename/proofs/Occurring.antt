@@ -1,4 +1,4 @@
--- The tokens at which a refusal is reported.
+-- Proves that there is a token at which each refusal is reported.
 use Rattle.std.proofs.Common.{◌≡◌, ℕ, suc, ◌<◌, Bool, true, false, if◌then◌else◌, Option, Some, None, List, ◌∷◌, length, slice_get, get_or, option_map, refl, ap, ◌∙◌, arith}
 use Rattle.std.proofs.lemmas.List.{length-map}
 use Rattle.std.proofs.lemmas.Option.{slice_get-get_or}
@@ -18,7 +18,7 @@ first_inside (x ∷ xs) (y ∷ ys) k e = one (same_binding x y) (first_differenc
     one false o is e later = let same : 0 ≡ k = cc in omega (arith, same)
 first_inside _ _ k e = absurd (cc)
 
--- an occurrence that is bound to another declaration has a token
+-- An occurrence that would be bound to another declaration has a token.
 pub occurrence_is_there : (r : Resolution) (bound : List Label) (k : ℕ) → IsResolution r → first_difference bound (bindings (named_tree_of r.module_read)) ≡ Some k
     → (token : ℕ) × (slice_get (occurrences (tree_of r.module_read)) k ≡ Some token)
 occurrence_is_there r bound k is e =

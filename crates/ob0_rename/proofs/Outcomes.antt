@@ -1,4 +1,4 @@
--- The answer for a declaration: a refusal because of a conflict, or the edits.
+-- Proves the answer for a declaration: a refusal because of a conflict, or the edits.
 use Rattle.std.proofs.Common.{◌≡◌, ◌⊎◌, ℕ, ◌≤◌, ◌<◌, Bool, true, false, if◌then◌else◌, Option, Some, None, Result, Ok, Err, Vec, List, [], ◌∷◌, length, map, slice_get, option_map, option_and_then, inl, inr, refl, sym, ap, ◌∙◌, subst, arith}
 use Rattle.std.proofs.lemmas.Bool.{ltb-false, ltb-true}
 use Rattle.std.specs.Prelude.{IfErr, IfOk, IsErrOf, nat_lt}
@@ -45,7 +45,7 @@ use Rattle.ob0_rename.proofs.Owned.{other_is_declared}
 use Rattle.ob0_rename.proofs.Rewritten.{of_renamed}
 use Rattle.ob0_rename.proofs.Occurring.{occurrence_is_there}
 
--- the facts about edits at places of a text that is scanned like this
+-- states the facts about edits that write a new name at places of a scanned text
 pub record Edited (unit : counting.Unit) (text : List ℕ) (new : Name) (s : Scanned) (places : List ℕ) (result : Result (Vec Edit Global) EditRefusal) : Type 0 where
   pub edits : IfOk result (λ edits. map parts edits.items ≡ map (edit_at unit text s.tokens new) places)
   pub short : IfOk result (λ edits. length (with_text_at s places new) ≤ max_text)
@@ -82,8 +82,8 @@ module _ (unit : counting.Unit) (text : List ℕ) (place : Position) (new : Name
       let is_there = occurrence_is_there r bound k is found in
       subst (IsRefusedTo (requested r) d) (sym (occurrence k is_there.0 refl is_there.1)) (id, (k, sym first, ap (option_map (token_range (requested r))) is_there.1))
 
-  -- if a well-typed tree has the new name at some places and runs like the module, edits at these
-  -- places leave a text of the tree
+  -- Edits at some places leave a text of a tree that has the new name there. The tree must be
+  -- well-typed and run like the module.
   pub written : (r : Resolution) (tree : Tree Name module_text) (places : List ℕ) → IsIdentifier new → ((name : List ℕ) → IsIdentifier name → ReplacesName name (name_word name ∷ []))
       → ((after : Scanned) → IsScan after → words_of after ≡ changed_words (at_each places (name_word new ∷ [])) 0 (words_of r.module_read.source) → ModuleOf after tree)
       → WellTyped tree × SameRuns tree (named_tree_of r.module_read)
@@ -124,7 +124,7 @@ pub whole : (text : List ℕ) → length (pieced text 0 []) ≡ length text
 unfolding pieced
 whole text = refl
 
--- renaming to the present name doesn't make the text too long
+-- Renaming a declaration to its present name doesn't make the text too long.
 pub own_answered : (unit : counting.Unit) (text : List ℕ) (new : Name) (d : ℕ) (m : Parsed) → IsScan m.source → is_declared_as m d new ≡ true
     → (result : Result (Vec Edit Global) EditRefusal) → Edited unit text new m.source (tokens_to_rename m d new) result → IfErr result (λ why. why ≡ refusal.Memory)
 own_answered unit text new d m scan own (Ok edits) made = tt
@@ -158,7 +158,7 @@ answered_there a d means (Err why) h = elim h [ inl e ↦ inl e | inr e ↦ inr 
 
 -- ---- the target at the place
 
--- the target that an identifier's meaning gives
+-- returns the target that the meaning of an identifier gives
 abbrev pub target_of : Scanned → ℕ → Meant → Target
 target_of source token (name_of ordinal) = by_ordinal ordinal
 target_of source token (Field k) = field_of k (text_at source token)

@@ -1,4 +1,4 @@
--- The names that a module's text declares, by their tokens.
+-- Proves which tokens declare names in a module's text, and which names.
 use Rattle.std.proofs.Common.{◌≡◌, ℕ, zero, suc, ◌+◌, ◌-◌, ◌≤◌, ◌<◌, Bool, true, false, if◌then◌else◌, Option, Some, None, List, [], ◌∷◌, ◌++◌, length, map, slice_get, get_or, nat_lt, option_map, refl, sym, ap, ◌∙◌, subst, arith}
 use Rattle.std.proofs.lemmas.Bool.{ltb-false, ltb-true}
 use Rattle.std.proofs.lemmas.List.{length-map, map-append}
@@ -22,7 +22,7 @@ use Rattle.ob0_scope.proofs.Searched.{constant_section-with, formals-with, map-a
 use Rattle.ob0_rename.proofs.Kept.{AreSo, same_module, so_where}
 use Rattle.ob0_rename.proofs.Unrefused.{OneWithin, namesake_within, own_name_free}
 
--- the names of a tree with other leaves
+-- Mapping the leaves of a tree maps the names that it declares.
 
 module _ {N M : Type 0} (f : N → M) (g : ℕ → ℕ) where
   mutual
@@ -83,14 +83,14 @@ module _ (m : Parsed) where
         slice_get_map (declaring_tokens m) j ∙ (ap (λ n. option_map (text_at m.source) (slice_get (declaring_tokens m) n)) (sym index) ∙ (ap (option_map (text_at m.source)) by.there ∙ ap Some by.written)) in
         some_inverse (sym here ∙ (ap (λ xs. slice_get xs j) names_there ∙ got)))
 
-    -- renaming a declaration to its own name
+    -- Renaming a declaration to its own name leaves the module unchanged.
     pub own_module : is_declared_as m d new ≡ true → declared_once (named_tree_of m) ≡ true → renamed (named_tree_of m) d new ≡ named_tree_of m
     own_module e once = let found = declared_by e in same_module d new (named_tree_of m) found.1.ordinal (all_so e) once
 
     pub own_free : is_declared_as m d new ≡ true → declared_once (named_tree_of m) ≡ true → Free (named_tree_of m) d new
     own_free e once = let found = declared_by e in own_name_free d new (named_tree_of m) found.1.ordinal (all_so e) once
 
-    -- another declaration of a block has a token
+    -- Another declaration of a block has a declaring token.
     pub other_is_declared : (other : ℕ) → namesake (named_tree_of m) d new ≡ Some other → (token : ℕ) × (declaring_token m other ≡ Some token)
     other_is_declared other e =
         let ds = declaring_tokens m in

@@ -1,5 +1,5 @@
--- A text with the words of a module, but with a new name for a declaration, is a text of the
--- renamed module.
+-- Proves that a text with the words of a module, but with a new name for a declaration, is a text
+-- of the renamed module.
 use Rattle.std.proofs.Common.{◌≡◌, ℕ, zero, suc, ◌≤◌, Bool, true, false, if◌then◌else◌, List, [], ◌∷◌, ◌++◌, map, refl, sym, ap, ◌∙◌, subst, arith}
 use Rattle.std.specs.Prelude.{slice_get}
 use Rattle.std.proofs.lemmas.List.{append_cancel_right}
@@ -72,8 +72,8 @@ pub renamed_module : (m : Parsed) (d : ℕ) (new : Name) → declared_once (name
     → mapped (renamed_at (words_of m.source) (tokens_to_rename m d new) new) (number_at (words_of m.source)) (tree_of m) ≡ renamed (named_tree_of m) d new
 renamed_module m d new once there = renamed_there m d new (is_declared_as m d new) refl once there
 
--- a text with a module's words, but a new name at some places, is a text of the tree with that name
--- there
+-- A text with a module's words, but a new name at some places, is a text of the tree with that name
+-- there.
 pub of_rewritten : (m : Parsed) (t : Tree Name module_text) (places : List ℕ) (new : Name) → IsParsed m → RenamedWordsSpell → AreNames m.source.tokens 0 places
     → mapped (renamed_at (words_of m.source) places new) (number_at (words_of m.source)) (tree_of m) ≡ t
     → (after : Scanned) → IsScan after → words_of after ≡ changed_words (at_each places (name_word new ∷ [])) 0 (words_of m.source) → ModuleOf after t

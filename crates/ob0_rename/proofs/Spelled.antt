@@ -1,4 +1,4 @@
--- The name of a declaration is an identifier.
+-- Proves that the name of a declaration is an identifier.
 use Rattle.std.proofs.Common.{◌≡◌, ℕ, zero, suc, ◌-◌, ◌<◌, List, [], ◌∷◌, ◌++◌, Option, None, Some, length, slice_get, sym, ◌∙◌, subst, arith, true}
 use Rattle.std.specs.Prelude.{IfSome}
 use Rattle.std.proofs.lemmas.List.{length-map}
@@ -61,7 +61,7 @@ one_is_identifier ts [] j k h e = absurd (cc)
 one_is_identifier ts (p ∷ ps) zero k h e = let same : p ≡ k = cc in subst (order.IsIdentifierToken ts) same h.0
 one_is_identifier ts (p ∷ ps) (suc j) k h e = one_is_identifier ts ps j k h.1 e
 
--- the text of an identifier token is an identifier
+-- The text of an identifier token is an identifier.
 pub spelled_at : (m : Parsed) (k : ℕ) → IsScan m.source → order.IsIdentifierToken m.source.tokens k → IsIdentifier (place.text_at m.source k)
 spelled_at m k scan is_there =
     let each : EachNamed (words_of m.source) = subst EachNamed (sym (scan_words m.source scan)) (words_named scan.lexemes [] scan.lexed.each) in
@@ -75,7 +75,7 @@ own_identifier m d new is scan e =
     let is_there = one_is_identifier m.source.tokens (declaring_tokens m) (d - 7) found.0 (declaring_are_identifiers m.source.tokens (identifiers role.Declaring (tree_of m)) (leaves_are_identifiers m is)) by.there in
     subst IsIdentifier by.written (spelled_at m found.0 scan is_there)
 
--- the same for a field at a place
+-- The text of a field's identifier at a place is an identifier.
 pub field_spelled : (m : Parsed) (found : Option Identified) → IsScan m.source → IfSome found (λ x. IsField x.means → order.IsIdentifierToken m.source.tokens x.token) → IfSome found (λ x. IsField x.means → IsIdentifier (place.text_at m.source x.token))
 field_spelled m None scan identified = tt
 field_spelled m (Some x) scan identified = λ field. spelled_at m x.token scan (identified field)

@@ -1,6 +1,6 @@
--- A declaration's own name is free, and each declaration of a block is a declaration of the module.
--- No other declaration of the block has the name, because names are declared once
--- (`own_name_free`).
+-- Proves that a declaration's own name is free, and that each declaration of a block is a
+-- declaration of the module. No other declaration of the block has the name, because names are
+-- declared once (`own_name_free`).
 use Rattle.std.proofs.Common.{◌≡◌, ℕ, suc, ◌≤◌, ◌<◌, ◌==◌, ◌&&◌, ◌||◌, not, Bool, true, false, if◌then◌else◌, Option, Some, None, List, [], ◌∷◌, ◌++◌, refl, sym, ap, ◌∙◌, arith, append-nil, le_trans, le_refl, subst}
 use Rattle.std.specs.List.{list_any}
 use Rattle.std.specs.Option.{option_or}

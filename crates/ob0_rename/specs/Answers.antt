@@ -1,4 +1,4 @@
--- The answer to a renaming of a declaration or a field: edits, or a refusal.
+-- Defines the answer to the renaming of a declaration or a field: edits, or a refusal.
 -- Rule: docs/PROTOCOL.md, Requests on documents 6, Refusals of edits.
 use Rattle.std.specs.Prelude.{◌≡◌, ◌⊎◌, ℕ, ◌<◌, ◌≤◌, List, Some, Result, Ok, Err, IfErr, Vec, length, map, true}
 use Rattle.std.specs.Str.{chars}
@@ -21,8 +21,8 @@ use Rattle.ob0_edits_tokens.specs.Replaced.{edit_at, parts}
 use Rattle.ob0_language_fields.specs.Renaming.{FieldFree, field_renamed, is_duplicate_field}
 use Rattle.ob0_rename.specs.Renaming.{NamesDeclaration, MeansField, Renaming, field_tokens_to_rename, is_declared_as, meant, module_of, nothing, occurrence_range, other_field_range, other_range, predeclared, text_with, tokens_to_rename, named_tree}
 
--- States that the edits write the new name at these tokens and change nothing else. Applied at
--- once, they leave a text of this tree, which is well-typed and has the same runs.
+-- States that the edits write the new name at these tokens and change nothing else. Made all at
+-- once, they leave a text of this tree. The tree is well-typed and has the same runs as the module.
 pub record WritesName (r : Renaming) (tokens : List ℕ) (tree : Tree Name module_text)
     (edits : List Edit) : Type 0 where
   pub short : length (text_with r tokens) ≤ max_text
@@ -37,16 +37,16 @@ pub record WritesName (r : Renaming) (tokens : List ℕ) (tree : Tree Name modul
 
 -- ---- for a declaration
 
--- States that the edits write the new name at all places of the declaration d, and leave the
--- renamed module.
+-- States that the edits write the new name everywhere for the declaration d, and leave the renamed
+-- module.
 pub record Renames (r : Renaming) (d : ℕ) (edits : List Edit) : Type 0 where
   pub identifier : IsIdentifier r.new
   pub free : Free (named_tree r) d r.new
   pub writes : WritesName r (tokens_to_rename (module_of r) d r.new)
       (renamed (named_tree r) d r.new) edits
 
--- States why the declaration d can't have the new name. If there are several reasons, it is the
--- first in this order.
+-- Holds if this is the refusal for the declaration d. If there are several reasons, it is the first
+-- in this order.
 abbrev pub IsRefusedTo : Renaming → ℕ → EditRefusal → Type 0
 IsRefusedTo r d refusal.NoName = ⊥
 IsRefusedTo r d refusal.Predeclared = ⊥
@@ -69,8 +69,8 @@ IsRefusedTo r d refusal.Shadowed = ⊥
 IsRefusedTo r d refusal.CommentInside = ⊥
 IsRefusedTo r d refusal.Memory = ⊥
 
--- states the answer for the declaration d: edits or the refusal; a failed allocation may replace
--- either
+-- Holds if this is the answer for the declaration d: edits or the refusal. If an allocation fails,
+-- the answer may be `Memory` instead of either.
 abbrev pub AnswersDeclaration : Renaming → ℕ → Result (Vec Edit Global) EditRefusal → Type 0
 AnswersDeclaration r d (Ok edits) = Renames r d edits.items
 AnswersDeclaration r d (Err why) = (why ≡ refusal.Memory) ⊎ IsRefusedTo r d why
@@ -85,7 +85,8 @@ pub record RenamesField (r : Renaming) (k : ℕ) (f : Name) (edits : List Edit) 
   pub writes : WritesName r (field_tokens_to_rename r.names k f r.new)
       (field_renamed (named_tree r) k f r.new) edits
 
--- States why the field can't have the new name. Only another field of its record conflicts with it.
+-- Holds if this is the refusal for the field. Only another field of its record conflicts with the
+-- new name.
 abbrev pub IsRefusedToField : Renaming → ℕ → Name → EditRefusal → Type 0
 IsRefusedToField r k f refusal.NoName = ⊥
 IsRefusedToField r k f refusal.Predeclared = ⊥
@@ -104,20 +105,21 @@ IsRefusedToField r k f refusal.Shadowed = ⊥
 IsRefusedToField r k f refusal.CommentInside = ⊥
 IsRefusedToField r k f refusal.Memory = ⊥
 
--- states the answer for the field: edits or the refusal; a failed allocation may replace either
+-- Holds if this is the answer for the field: edits or the refusal. If an allocation fails, the
+-- answer may be `Memory` instead of either.
 abbrev pub AnswersForField : Renaming → ℕ → Name → Result (Vec Edit Global) EditRefusal → Type 0
 AnswersForField r k f (Ok edits) = RenamesField r k f edits.items
 AnswersForField r k f (Err why) = (why ≡ refusal.Memory) ⊎ IsRefusedToField r k f why
 
 -- ---- by the identifier at the place
 
--- states that the declaration or field at the place can't have the new name
+-- holds if the declaration or field at the place is refused the new name for this reason
 abbrev pub IsRefusedToNamed : Renaming → EditRefusal → Type 0
 IsRefusedToNamed r why =
     ((d : ℕ) × NamesDeclaration r d × IsRefusedTo r d why)
     ⊎ ((k : ℕ) × ((f : Name) × MeansField r k f × IsRefusedToField r k f why))
 
--- states why there are no edits
+-- holds if there are no edits, for this reason
 abbrev pub IsRefused : Renaming → EditRefusal → Type 0
 IsRefused r refusal.NoName = meant r ≡ nothing
 IsRefused r refusal.Predeclared = meant r ≡ predeclared
@@ -130,19 +132,19 @@ IsRefused r refusal.Shadowed = ⊥
 IsRefused r refusal.CommentInside = ⊥
 IsRefused r refusal.Memory = ⊥
 
--- states that these edits rename the declaration or field at the place
+-- holds if these edits rename the declaration or field at the place
 abbrev pub AreEdits : Renaming → List Edit → Type 0
 AreEdits r edits =
     ((d : ℕ) × NamesDeclaration r d × Renames r d edits)
     ⊎ ((k : ℕ) × ((f : Name) × MeansField r k f × RenamesField r k f edits))
 
--- states the answer: edits, the refusal, or a failed allocation
+-- Holds if this is the answer: edits, the refusal, or `Memory` if an allocation failed.
 abbrev pub RenameAnswers : Renaming → Result (Vec Edit Global) EditRefusal → Type 0
 RenameAnswers r (Ok edits) = AreEdits r edits.items
 RenameAnswers r (Err why) = (why ≡ refusal.Memory) ⊎ IsRefused r why
 
--- States that a failed allocation is possible: a declaration or a field is at the place, and the
--- new name is an identifier.
+-- States when an allocation can fail: a declaration or a field is at the place, and the new name is
+-- an identifier.
 pub record AllocatesOnly (r : Renaming) : Type 0 where
   pub identifier : IsIdentifier r.new
   pub some : ¬ (meant r ≡ nothing)
@@ -150,11 +152,11 @@ pub record AllocatesOnly (r : Renaming) : Type 0 where
 
 -- ---- renaming to the present name
 
--- states that a failed allocation is the only error
+-- holds if the result can't be an error other than a failed allocation
 abbrev pub OnlyMemory : Result (Vec Edit Global) EditRefusal → Type 0
 OnlyMemory result = IfErr result (λ why. why ≡ refusal.Memory)
 
--- states that a declaration or field that already has the new name isn't refused
+-- holds if a declaration or field that already has the new name isn't refused
 abbrev pub TakesOwnName : Renaming → Result (Vec Edit Global) EditRefusal → Type 0
 TakesOwnName r result =
     ((d : ℕ)

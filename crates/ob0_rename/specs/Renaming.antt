@@ -1,5 +1,5 @@
--- Renaming the declaration or the record field at a place of a text: the places of the new name,
--- and its conflicts.
+-- Defines the renaming of the declaration or the record field at a place of a text: the places of
+-- the new name, and its conflicts.
 -- Rule: docs/PROTOCOL.md, Requests on documents 6, Refusals of edits.
 use Rattle.std.specs.Prelude.{◌≡◌, ℕ, Bool, true, false, nat_lt, if◌then◌else◌, List, [], Option, Some, None, option_and_then, option_map, slice_get}
 use Rattle.ob0_scan.specs.Scanned.{Scanned}
@@ -23,7 +23,8 @@ use Rattle.ob0_scope.specs.declared.naming.Named as named
 use Rattle.ob0_types_fields.specs.declared.field_name.FieldName.{FieldName}
 use Rattle.ob0_types_fields.specs.Identifiers.{declaring_field, field_at, field_tokens}
 
--- A module's text, in characters, with the unit of its positions; a place in it, and the new name.
+-- A module's text, in characters, with the unit of its positions. `place` is the place of the old
+-- name, and `new` the new name.
 pub record Renaming : Type 0 where
   pub unit : counting.Unit
   pub text : List ℕ
@@ -31,16 +32,16 @@ pub record Renaming : Type 0 where
   pub place : Position
   pub new : Name
 
--- a renaming at a place of a text that is this module
+-- returns the renaming at a place of a text that is this module
 abbrev pub renaming_of : counting.Unit → List ℕ → Resolution → Position → List ℕ → Renaming
 renaming_of unit text names place new =
     record { unit = unit; text = text; names = names; place = place; new = new }
 
--- the module of the text
+-- returns the module of the text
 abbrev pub module_of : Renaming → read.Parsed
 module_of r = r.names.module_read
 
--- the module's tree over names
+-- returns the module's tree over names
 abbrev pub named_tree : Renaming → Tree Name module_text
 named_tree r = read.named_tree_of (module_of r)
 
@@ -55,41 +56,41 @@ pub data Target : Type 0 where
   -- the field with this name of the record with this ordinal
   field_of : ℕ → Name → Target
 
--- the target of a name with an ordinal: predeclared if it is below `predeclared_count`, otherwise a
--- declaration
+-- Returns the target of a name with an ordinal. It is predeclared if the ordinal is below
+-- `predeclared_count`, otherwise a declaration.
 abbrev pub by_ordinal : ℕ → Target
 by_ordinal ordinal = if nat_lt ordinal predeclared_count then predeclared else declaration ordinal
 
--- the target of an identifier of a field
+-- returns the target of an identifier of a field, if there is one
 abbrev pub by_token : Scanned → Option FieldName → Target
 by_token source None = nothing
 by_token source (Some x) = field_of x.owner (text_at source x.token)
 
--- the target of the name at the place, or otherwise of the field
+-- returns the target of the name at the place, or otherwise of the field
 abbrev pub meant_by : Scanned → Option named.Named → Option FieldName → Target
 meant_by source (Some n) f = by_ordinal n.ordinal
 meant_by source None f = by_token source f
 
--- the target of the identifier at an offset: a name of the module, or otherwise a field
+-- returns the target of the identifier at an offset: a name of the module, or otherwise a field
 abbrev pub meant_at : Resolution → ℕ → Target
 meant_at names offset =
     meant_by names.module_read.source (name_on names.module_read offset) (field_at names offset)
 
--- the target of the renaming
+-- returns the target of the renaming
 abbrev pub meant : Renaming → Target
 meant r = meant_at r.names (offset_of (width_of r.unit) r.text r.place)
 
--- states that the target is the declaration with this ordinal
+-- holds if the target is the declaration with this ordinal
 abbrev pub NamesDeclaration : Renaming → ℕ → Type 0
 NamesDeclaration r d = meant r ≡ declaration d
 
--- states that the target is the field f of the record with the ordinal k
+-- holds if the target is the field f of the record with the ordinal k
 abbrev pub MeansField : Renaming → ℕ → Name → Type 0
 MeansField r k f = meant r ≡ field_of k f
 
 -- ---- the places of the new name
 
--- the token that declares the object with an ordinal; None for a predeclared name
+-- returns the token that declares the object with an ordinal; None for a predeclared name
 abbrev pub declaring_token : read.Parsed → ℕ → Option ℕ
 declaring_token m ordinal =
     token_declaring (declaring_only (identifiers role.Declaring (read.tree_of m))) ordinal
@@ -100,36 +101,39 @@ is_declared_as m d new =
     elim (declaring_token m d)
     [ Some token ↦ same_name (text_at m.source token) new | None ↦ false ]
 
--- the tokens of the name, including the declaring one and closing names; none if the new name is
--- the old one
+-- Returns the tokens of the declaration's name, including the declaring one and closing names. The
+-- list is empty if the new name is the old one.
 abbrev pub tokens_to_rename : read.Parsed → ℕ → Name → List ℕ
 tokens_to_rename m d new = if is_declared_as m d new then [] else tokens_bound m d true
 
--- the tokens that declare or select the field f of the record k; none if it has the new name
+-- Returns the tokens that declare or select the field f of the record k. The list is empty if the
+-- field already has the new name.
 abbrev pub field_tokens_to_rename : Resolution → ℕ → Name → Name → List ℕ
 field_tokens_to_rename names k f new = if same_name new f then [] else field_tokens names k f
 
--- the text with the new name at some tokens, in bytes
+-- returns the text with the new name at some tokens, in bytes
 abbrev pub text_with : Renaming → List ℕ → List ℕ
 text_with r tokens = with_text_at (module_of r).source tokens r.new
 
 -- ---- conflicts of the new name
 
--- the range of a token
+-- returns the range of a token
 abbrev pub token_range : Renaming → ℕ → Range
 token_range r token = range_of (width_of r.unit) r.text (span_at (module_of r).source token)
 
--- the range of the other declaration of the block that has the new name
+-- returns the range of the other declaration of the block that has the new name; None if there is
+-- none
 abbrev pub other_range : Renaming → ℕ → Option Range
 other_range r d =
     option_map (token_range r)
     (option_and_then (declaring_token (module_of r)) (namesake (named_tree r) d r.new))
 
--- the range of the identifier that declares a field of the record k with the new name
+-- returns the range of the identifier that declares a field of the record k with the new name; None
+-- if there is none
 abbrev pub other_field_range : Renaming → ℕ → Option Range
 other_field_range r k = option_map (token_range r) (declaring_field (module_of r) k r.new)
 
--- the range of the occurrence with a number, counted from 0 in text order
+-- returns the range of the occurrence with this number, counted from 0 in text order
 abbrev pub occurrence_range : Renaming → ℕ → Option Range
 occurrence_range r k =
     option_map (token_range r) (slice_get (occurrences (read.tree_of (module_of r))) k)

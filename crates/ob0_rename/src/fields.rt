@@ -1,4 +1,4 @@
-//! The edits that rename a record's field.
+//! Renames a record's field by edits.
 
 ghost use Rattle.std.specs.Prelude.{◌≡◌, Err, IfOk, None, if◌then◌else◌};
 ghost use Rattle.std.specs.Str.{chars};
@@ -23,8 +23,8 @@ use ob0_types::{WellTyped, declaring_field, field_tokens};
 use ob0_types_fields::laws::{duplicate_by_token, renamed_at_tokens};
 use std::alloc::{AllocError, Global};
 
-/// Returns the edits that rename the field whose name is at a token, a field of the record with the
-/// ordinal `owner`.
+/// Returns the edits that rename the field whose name is at a token. It is a field of the record
+/// with the ordinal `owner`.
 pub(crate) fn rename_field<T: TextStore>(
     alloc: Global,
     store: &T,
@@ -54,7 +54,7 @@ pub(crate) fn rename_field<T: TextStore>(
     renamed_at_tokens();
     duplicate_by_token();
     let names = well_typed.resolved();
-    // For the proof: the contract of this call is needed.
+    // The proof needs the contract of this call.
     let _text = names.tokens().text();
     if !is_identifier(new) {
         return Err(EditRefusal::BadName);
@@ -71,7 +71,8 @@ pub(crate) fn rename_field<T: TextStore>(
     }
 }
 
-/// Returns the token that declares another field of the record with the new name, if there is one.
+/// Returns the token that declares another field of the record with the new name. None if there is
+/// none, or if the field already has that name.
 fn other_field(well_typed: &WellTyped<'_>, owner: usize, old: &str, new: &str) -> Option<usize>
     ensures { result
         ≡ (if same_name new.now old.now
@@ -84,7 +85,8 @@ fn other_field(well_typed: &WellTyped<'_>, owner: usize, old: &str, new: &str) -
     declaring_field(well_typed, owner, new)
 }
 
-/// Returns the tokens of a field in text order, or no tokens if it already has the new name.
+/// Returns the tokens of a field in text order. The list is empty if the field already has the new
+/// name.
 fn field_tokens_to_rename(
     alloc: Global,
     well_typed: &WellTyped<'_>,

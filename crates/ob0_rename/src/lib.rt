@@ -1,5 +1,6 @@
-//! Renaming a declaration or a field of a well-typed module: the edits, which leave a module with
-//! the same runs, or the refusal. (docs/PROTOCOL.md, Requests on documents and Refusals of edits.)
+//! Renames a declaration or a field of a well-typed module. Returns the edits, which leave a module
+//! with the same runs, or the refusal. (docs/PROTOCOL.md, Requests on documents and Refusals of
+//! edits.)
 #![tactic(auto)]
 
 mod fields;

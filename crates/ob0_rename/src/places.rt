@@ -1,5 +1,5 @@
-//! Places of a text: the meaning of the identifier at a place, the tokens that a renaming changes,
-//! and ranges of tokens.
+//! Finds the identifier at a place and its meaning, the tokens that a renaming changes, and ranges
+//! of tokens.
 
 ghost use Rattle.std.specs.Prelude.{◌≡◌, ℕ, IfOk, IfSome, Some};
 ghost use Rattle.ob0_scan.specs.Classes.{IsIdentifier};
@@ -19,19 +19,20 @@ use ob0_text::{Range, TextStore};
 use ob0_types::{Identified, WellTyped, meant_at};
 use std::alloc::{AllocError, Global};
 
-/// Returns the identifier at a place, and its meaning. The text of a field's name is an identifier.
+/// Returns the identifier at a place, and its meaning; a field's name is spelled as an identifier.
+/// None if no name or field is at the place.
 pub(crate) fn identified(well_typed: &WellTyped<'_>, offset: usize) -> Option<Identified>
     ensures found { result ≡ meant_at well_typed.now offset }
     ensures spelled { IfSome result (λ x. IsField x.means
         → IsIdentifier (text_at well_typed.now.module_read.source x.token)) }
 {
-    // For the proof: the contract of this call is needed.
+    // The proof needs the contract of this call.
     let _text = well_typed.resolved().tokens().text();
     meant_at(well_typed, offset)
 }
 
-/// Returns the tokens of a declaration's name in text order, or no tokens if it already has the new
-/// name.
+/// Returns the tokens of a declaration's name in text order. The list is empty if the declaration
+/// already has the new name.
 pub(crate) fn tokens_to_rename(
     alloc: Global,
     names: &Resolved,
@@ -49,11 +50,11 @@ pub(crate) fn tokens_to_rename(
     renamed_tokens(alloc, names, declaration)
 }
 
-/// Returns whether a declaration has this name.
+/// Returns true if a declaration has this name.
 fn is_declared_as(names: &Resolved, declaration: usize, name: &str) -> bool
     ensures { result ≡ is_declared_as names.now.module_read declaration name.now }
 {
-    // For the proof: the contract of this call is needed.
+    // The proof needs the contract of this call.
     let _module = names.module();
     match names.declaring_token(declaration) {
         Some(token) => is_written(names.tokens(), token, name),
@@ -61,7 +62,7 @@ fn is_declared_as(names: &Resolved, declaration: usize, name: &str) -> bool
     }
 }
 
-/// Returns the range of a token, or an empty range at the text's start if there is no token.
+/// Returns the range of a token. If there is no token, it is an empty range at the text's start.
 pub(crate) fn token_range<T: TextStore>(store: &T, tokens: &Tokens, token: Option<usize>) -> Range
     ensures { (index : ℕ)
         → token ≡ Some index

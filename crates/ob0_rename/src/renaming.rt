@@ -1,4 +1,4 @@
-//! The edits that rename a declaration or a field.
+//! Renames a declaration or a field by edits.
 
 ghost use Rattle.std.specs.Prelude.{◌≡◌, ℕ, Err, Some, slice_get, true};
 ghost use Rattle.std.specs.Str.{chars};
@@ -27,13 +27,15 @@ use ob0_types::{Meant, WellTyped};
 use std::alloc::Global;
 
 /// Returns the edits that rename the declaration or field at a place to `new`, in text order. There
-/// is one for each identifier that declares, closes or is bound to the declaration, or that
+/// is one edit for each identifier that declares, closes or is bound to the declaration, or that
 /// declares or selects the field. There are none if it already has that name. The place may be in
-/// the name or at its end. If several refusals apply, the first in this order is returned: `NoName`
-/// (no name, or the module's name), `Predeclared`, `BadName`, `Duplicate`, `Captures`, `TooLong`.
-/// `Duplicate` has the range of the other declaration, or of the other field of the record.
-/// `Captures` has the range of the first occurrence that would be bound to another declaration; it
-/// is never returned for a field.
+/// the name or at its end.
+///
+/// If several refusals apply, the first in this order is returned: `NoName` (no name, or the
+/// module's name), `Predeclared`, `BadName`, `Duplicate`, `Captures`, `TooLong`. `Duplicate` has
+/// the range of the other declaration, or of the other field of the record. `Captures` has the
+/// range of the first occurrence that would be bound to another declaration. It is never returned
+/// for a field.
 pub fn rename<T: TextStore>(
     alloc: Global,
     store: &T,
@@ -66,7 +68,7 @@ pub fn rename<T: TextStore>(
     }
 }
 
-/// Returns the edits that rename the declaration with an ordinal to `new`, in text order.
+/// Returns the edits that rename the declaration with this ordinal to `new`, in text order.
 fn rename_declaration<T: TextStore>(
     alloc: Global,
     store: &T,
@@ -85,7 +87,7 @@ fn rename_declaration<T: TextStore>(
     renamed_words_spell();
     free_keeps_modules();
     let names = well_typed.resolved();
-    // For the proof: the contract of this call is needed.
+    // The proof needs the contract of this call.
     let _text = names.tokens().text();
     if !is_identifier(new) {
         return Err(EditRefusal::BadName);
@@ -99,7 +101,7 @@ fn rename_declaration<T: TextStore>(
     }
 }
 
-/// Returns the refusal of a name that isn't free.
+/// Returns the refusal of a name that has this conflict.
 fn refusal_of<T: TextStore>(store: &T, names: &Resolved, capture: FirstCapture) -> EditRefusal
     ensures duplicate { (other token : ℕ) → capture ≡ Duplicate other
         → declaring_token names.now.module_read other ≡ Some token
@@ -110,7 +112,7 @@ fn refusal_of<T: TextStore>(store: &T, names: &Resolved, capture: FirstCapture) 
         → result ≡ refused.Captures (range_of (width_of (T.unit_of store.now))
         (T.content store.now) (span_at names.now.module_read.source token)) }
 {
-    // For the proof: the contract of this call is needed.
+    // The proof needs the contract of this call.
     let _module = names.module();
     match capture {
         FirstCapture::Duplicate(other) => EditRefusal::Duplicate {

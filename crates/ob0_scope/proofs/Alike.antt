@@ -1,4 +1,4 @@
--- Trees whose leaves have the same names are the same.
+-- Proves that two trees of one shape are equal if their leaves have the same names.
 use Rattle.std.proofs.Common.{◌≡◌, ℕ, List, [], ◌∷◌, ◌++◌, refl}
 use Rattle.ob0_tree.specs.declared.tree.Role.{Role}
 use Rattle.ob0_tree.specs.declared.tree.Role.TheVariants as role

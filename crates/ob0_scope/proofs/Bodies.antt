@@ -1,4 +1,5 @@
--- The procedures of a block, one after the other, up to the one that contains a body.
+-- Proves that visiting the procedures of a block one after another finds the one that contains a
+-- body.
 use Rattle.std.proofs.Common.{◌≡◌, ◌<◌, ◌≤◌, ℕ, zero, ◌+◌, if◌then◌else◌, nat_lt, List, [], ◌∷◌, length, drop, get_or, refl, sym, ap, ◌∙◌, lt-ltb, le-ltb}
 use Rattle.std.proofs.lemmas.List.{drop_all, drop_more}
 use Rattle.ob0_tree.specs.Tree.{Tree, block, body, constants, declares, has_body, item, items, maybe, more, procedure, type_names, variables}
@@ -9,12 +10,13 @@ use Rattle.ob0_tree.proofs.Viewed.{block_parts, procedure_parts}
 use Rattle.ob0_scope_table.specs.BodyReplaced.{Way, body_among, body_in, body_inside, closing_among, closing_in, closing_inside, later, way_among, way_in_block, way_in_procedure}
 use Rattle.ob0_scope_table.specs.OneBody.{closing_name}
 
--- statements, and the closing name of their block
+-- the statements of a block, with its closing name
 pub record Place : Type 0 where
   pub statements : Tree ℕ (maybe body)
   pub closing : ℕ
 
--- the statements to which a way leads among procedures, or the statements of the block itself
+-- returns the statements to which a way leads among procedures; an empty way leads to the block's
+-- own statements
 abbrev pub among : Way → ℕ → Tree ℕ (items procedure) → Tree ℕ (maybe body) → Place
 among [] own ps statements = record { statements = statements; closing = own }
 among (k ∷ way) own ps statements = record { statements = body_among k way ps; closing = closing_among k way own ps }
@@ -26,11 +28,11 @@ one_later (k ∷ way) own p ps statements = refl
 abbrev pub place_in : ℕ → Tree ℕ (item procedure) → Place
 place_in low p = record { statements = body_inside (way_in_procedure low p) p; closing = closing_inside (way_in_procedure low p) p }
 
--- the statements that contain the range beginning at `low`
+-- returns the statements that contain the range beginning at `low`
 abbrev pub from_procedures : ℕ → ℕ → Tree ℕ (items procedure) → Tree ℕ (maybe body) → Place
 from_procedures low own ps statements = among (way_among low ps) own ps statements
 
--- the statements of a block that contain the range
+-- returns the statements of a block that contain the range beginning at `low`
 abbrev pub place_of_block : ℕ → ℕ → Tree ℕ block → Place
 place_of_block low own b = record { statements = body_in (way_in_block low b) b; closing = closing_in (way_in_block low b) own b }
 

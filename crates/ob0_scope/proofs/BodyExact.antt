@@ -1,5 +1,5 @@
--- If a range of tokens is inside a body, so is the range from the body's first identifier up to the
--- closing name of its block.
+-- Proves that a body that contains a range of tokens also contains a larger range: from its first
+-- identifier up to the closing name of its block.
 use Rattle.std.proofs.Common.{◌≡◌, ◌<◌, ◌≤◌, ℕ, zero, ◌+◌, Bool, true, false, ◌&&◌, nat_le, nat_lt, if◌then◌else◌, Some, List, [], ◌∷◌, ◌++◌, refl, sym, ap, ◌∙◌, subst, arith, append_assoc, append-nil, lt-ltb, le-ltb}
 use Rattle.std.proofs.lemmas.Bool.Decides.{nat_tests}
 use Rattle.std.proofs.lemmas.Bool.{and_parts}
@@ -16,7 +16,7 @@ use Rattle.ob0_scope.proofs.Bodies.{Place, among, one_later}
 use Rattle.ob0_scope.proofs.BodySplit.{split_among, split_inside}
 use Rattle.ob0_scope.proofs.CarriedLists.{some_first}
 
--- the first of some identifiers is one of them
+-- If all identifiers are at or above a number, the first one is.
 first_from : (n first : ℕ) (ids : List (Role × ℕ)) (others : List ℕ) → first_of ids ≡ Some first → AllFrom n (names_only ids ++ others) → n ≤ first
 first_from n first [] others e h = absurd (cc)
 first_from n first (x ∷ ids) others e h = subst (λ m. n ≤ m) (some_first e) h.0
@@ -43,13 +43,14 @@ body_first n first k way ps statements e h =
     ∙ (ap names_only s.whole_is ∙ (leaves_append s.before (ids ++ last) ∙ ap (λ z. names_only s.before ++ z) (leaves_append ids last)))) in
     first_from n first ids (names_only last) e (from_second n (names_only s.before) (names_only ids ++ names_only last) (subst (AllFrom n) whole (with_last n (leaves ps ++ leaves statements) h)))
 
--- if all identifiers of procedures and statements are at or above a number, so is the body's first
--- one
+-- If all identifiers of procedures and statements are at or above a number, the body's first one
+-- is.
 first_among : (way : Way) (n first own : ℕ) (ps : Tree ℕ (items procedure)) (statements : Tree ℕ (maybe body)) → first_of (identifiers role.Declaring (among way own ps statements).statements) ≡ Some first → AllFrom n (leaves ps ++ leaves statements) → n ≤ first
 first_among [] n first own ps statements e h = first_from n first (identifiers role.Declaring statements) [] e (subst (AllFrom n) (sym (append-nil (leaves statements))) (from_second n (leaves ps) (leaves statements) h))
 first_among (k ∷ way) n first own ps statements e h = body_first n first k way ps statements e h
 
--- the closing name of a body's block isn't after the closing name of the procedure that contains it
+-- The closing name of a body's block isn't after the closing name of the procedure that contains
+-- it.
 closing_last : (way : Way) (q : Tree ℕ (item procedure)) (from to : ℕ) → Ascending from (leaves q) to → closing_inside way q ≤ closing_name q
 closing_last way q from to h =
     let s = split_inside way [] q in
@@ -72,7 +73,7 @@ closing_last way q from to h =
         let split : leaves (declares_procedure x fs b closing) ≡ inside ++ (closing ∷ []) = simp (leaves_append, append_assoc) in
         subst (AllBelow (closing + 1)) (sym split) (ends_below inside closing from to (subst (λ l. Ascending from l to) split h))
 
--- the identifiers after a procedure
+-- The identifiers after a procedure ascend from its closing name.
 after_procedure : (q : Tree ℕ (item procedure)) (rest : List ℕ) (from to : ℕ) → Ascending from (leaves q ++ rest) to → Ascending (closing_name q + 1) rest to
 after_procedure (declares_procedure x fs b closing) rest from to h =
     let inside : List ℕ = x ∷ (leaves fs ++ leaves b) in

@@ -1,14 +1,14 @@
--- The identifiers of a module in three parts: before the statements to which a way leads, in them,
--- and from the closing name of their block onwards. The module without these statements has the
--- first and the last part.
+-- Splits the identifiers of a module into three parts: before the statements to which a way leads,
+-- in them, and from the closing name of their block onwards. The module without these statements
+-- has the first and the last part.
 use Rattle.std.proofs.Common.{◌≡◌, ℕ, zero, suc, List, [], ◌∷◌, ◌++◌, refl, sym, ap, ◌∙◌, append_assoc, append-nil}
 use Rattle.ob0_tree.specs.declared.tree.Role.{Role}
 use Rattle.ob0_tree.specs.declared.tree.Role.TheVariants as role
 use Rattle.ob0_tree.specs.Tree.{Tree, block, declares, declares_procedure, end, has_body, identifiers, is_module, item, items, module_text, more, procedure}
 use Rattle.ob0_scope_table.specs.BodyReplaced.{Way, block_without, body_among, body_at, body_in, body_inside, closing_among, closing_at, closing_in, closing_inside, procedure_without, procedures_without, without}
 
--- identifiers with and without the identifiers of a body; a closing name is the first one after the
--- body
+-- states that `whole` is `rest` with the identifiers of a body inserted; the closing name comes
+-- first after the body
 pub record Split {N : Type 0} (whole rest own : List (Role × N)) (closing : N) : Type 0 where
   pub before : List (Role × N)
   pub closes : Role
@@ -16,7 +16,7 @@ pub record Split {N : Type 0} (whole rest own : List (Role × N)) (closing : N) 
   pub whole_is : whole ≡ before ++ (own ++ ((closes, closing) ∷ after))
   pub rest_is : rest ≡ before ++ ((closes, closing) ∷ after)
 
--- puts other identifiers before all of them
+-- Other identifiers may be put before both lists.
 prepend : {N : Type 0} {whole rest own : List (Role × N)} {closing : N} (xs : List (Role × N)) → Split whole rest own closing → Split (xs ++ whole) (xs ++ rest) own closing
 prepend {own = own} {closing = closing} xs s =
     record {
@@ -30,16 +30,16 @@ prepend {own = own} {closing = closing} xs s =
 split_is : {N : Type 0} {whole whole' rest rest' own : List (Role × N)} {closing : N} → whole' ≡ whole → rest' ≡ rest → Split whole rest own closing → Split whole' rest' own closing
 split_is e h s = record { before = s.before; closes = s.closes; after = s.after; whole_is = e ∙ s.whole_is; rest_is = h ∙ s.rest_is }
 
--- lists in a block, one after the other, with others after it
+-- Reassociates the lists of a block's parts, with other elements after them.
 in_block : {X : Type 0} (c t v p s rest : List X) → ((c ++ (t ++ (v ++ p))) ++ s) ++ rest ≡ (c ++ (t ++ v)) ++ (p ++ (s ++ rest))
 in_block c t v p s rest = simp (append_assoc)
 
--- lists in a procedure, with others after it
+-- Reassociates the lists of a procedure's parts, with other elements after them.
 in_procedure : {X : Type 0} (x : X) (f b rest : List X) (last : X) → (x ∷ (f ++ (b ++ (last ∷ [])))) ++ rest ≡ (x ∷ f) ++ (b ++ (last ∷ rest))
 in_procedure x f b rest last = simp (append_assoc)
 
 mutual
-  -- a block with this closing name, and others after it
+  -- Splits the identifiers of a block with this closing name, and others after it.
   pub split_block : {N : Type 0} (way : Way) (closes : Role) (own : N) (rest : List (Role × N)) (b : Tree N block)
       → Split (identifiers role.Declaring b ++ ((closes, own) ∷ rest)) (identifiers role.Declaring (block_without way b) ++ ((closes, own) ∷ rest)) (identifiers role.Declaring (body_in way b)) (closing_in way own b)
   split_block [] closes own rest (has_body ds statements) =
@@ -60,7 +60,7 @@ mutual
       split_is (in_block c t v (identifiers role.Declaring ps) s ((closes, own) ∷ rest)) (in_block c t v (identifiers role.Declaring (procedures_without k way ps)) s ((closes, own) ∷ rest))
       (prepend (c ++ (t ++ v)) (split_among k way closes own s rest ps))
 
-  -- procedures, and others after them
+  -- Splits the identifiers of procedures, and others after them.
   pub split_among : {N : Type 0} (k : ℕ) (way : Way) (closes : Role) (own : N) (following rest : List (Role × N)) (ps : Tree N (items procedure))
       → Split (identifiers role.Declaring ps ++ (following ++ ((closes, own) ∷ rest))) (identifiers role.Declaring (procedures_without k way ps) ++ (following ++ ((closes, own) ∷ rest))) (identifiers role.Declaring (body_among k way ps)) (closing_among k way own ps)
   split_among zero way closes own following rest end = record { before = following; closes = closes; after = rest; whole_is = refl; rest_is = refl }
@@ -75,7 +75,7 @@ mutual
       (append_assoc (identifiers role.Declaring p) (identifiers role.Declaring (procedures_without k way ps)) (following ++ ((closes, own) ∷ rest)))
       (prepend (identifiers role.Declaring p) (split_among k way closes own following rest ps))
 
-  -- a procedure, and others after it
+  -- Splits the identifiers of a procedure, and others after it.
   pub split_inside : {N : Type 0} (way : Way) (rest : List (Role × N)) (p : Tree N (item procedure))
       → Split (identifiers role.Declaring p ++ rest) (identifiers role.Declaring (procedure_without way p) ++ rest) (identifiers role.Declaring (body_inside way p)) (closing_inside way p)
   split_inside way rest (declares_procedure x fs b closing) =
@@ -83,6 +83,6 @@ mutual
       split_is (in_procedure (role.Declaring, x) f (identifiers role.Declaring b) rest (role.ClosingName, closing)) (in_procedure (role.Declaring, x) f (identifiers role.Declaring (block_without way b)) rest (role.ClosingName, closing))
       (prepend ((role.Declaring, x) ∷ f) (split_block way role.ClosingName closing rest b))
 
--- a module
+-- Splits the identifiers of a module.
 pub split_module : {N : Type 0} (way : Way) (t : Tree N module_text) → Split (identifiers role.Declaring t) (identifiers role.Declaring (without way t)) (identifiers role.Declaring (body_at way t)) (closing_at way t)
 split_module way (is_module x b closing) = prepend ((role.ModuleName, x) ∷ []) (split_block way role.ModuleName closing [] b)

@@ -1,4 +1,4 @@
--- The reported capture is the first capture.
+-- Proves that the reported capture is the first capture.
 use Rattle.std.proofs.Common.{◌≡◌, ◌↔◌, ℕ, Bool, true, false, not, ◌&&◌, ◌||◌, ◌==◌, if◌then◌else◌, Option, Some, None, List, [], ◌∷◌, is_some, option_map, refl, sym, ap, ◌∙◌}
 use Rattle.std.specs.List.{list_any}
 use Rattle.std.specs.Option.{option_or}
@@ -62,7 +62,7 @@ free_where_none m d new found e = (
     nothing None h = refl
     nothing (Some c) h = absurd (cc)
 
--- if no other declaration of the block has the name, there is no namesake
+-- If no other declaration of the block has the name, there is no namesake.
 pub no_namesake : (m : Tree Name module_text) (d : ℕ) (new : Name) → is_duplicate m d new ≡ false → None ≡ namesake m d new
 no_namesake m d new e = nothing (namesake m d new) (sym (duplicate_is m d new (namesake m d new) refl) ∙ e)
   where

@@ -1,4 +1,4 @@
--- The lists of a module's tokens, and its table, after the tokens of one body are replaced.
+-- Proves which tokens and which table a module has after the tokens of one body are replaced.
 use Rattle.std.proofs.Common.{◌≡◌, ◌<◌, ◌≤◌, ℕ, zero, suc, ◌+◌, ◌-◌, ◌^◌, Bool, true, false, nat_lt, if◌then◌else◌, Option, Some, None, List, [], ◌∷◌, ◌++◌, map, length, take, drop, replicate, get_or, refl, sym, ap, ◌∙◌, subst, arith, append-nil, length-append, lt-ltb, le-ltb}
 use Rattle.std.proofs.Math.ListN.{get_or-append}
 use Rattle.std.proofs.Math.Nat.{min-eq_left}
@@ -19,7 +19,8 @@ use Rattle.ob0_scope.specs.declared.carrying.BodyRange.{BodyRange}
 
 -- ---- identifiers in three parts
 
--- the identifiers before a body, in it, and from its block's closing name onwards
+-- states the bounds of the identifiers before a body, in it, and from its block's closing name
+-- onwards
 pub record Parted (before own after : List (Role × ℕ)) (first closing high : ℕ) : Type 0 where
   pub before_below : AllBelow first (names_only before)
   pub own_from : AllFrom first (names_only own)
@@ -59,7 +60,7 @@ parted before (x ∷ own) after closes first closing high e h =
       few = omega (arith, bounded.0);
     }
 
--- two lists that are split at the same limit have the same parts
+-- Two equal lists that are split at the same limit have the same parts.
 pub same_parts : (n : ℕ) (us cs vs ds : List (Role × ℕ)) → AllBelow n (names_only us) → AllBelow n (names_only vs) → AllFrom n (names_only cs) → AllFrom n (names_only ds) → us ++ cs ≡ vs ++ ds → (us ≡ vs) × (cs ≡ ds)
 same_parts n [] cs [] ds a b c d e = (refl, e)
 same_parts n [] cs (y ∷ vs) ds a b c d e = let from = subst (λ l. AllFrom n (names_only l)) e c in absurd (omega (arith, from.0, b.0))
@@ -71,7 +72,7 @@ same_parts n (x ∷ us) cs (y ∷ vs) ds a b c d e =
 
 -- ---- a selection of identifiers
 
--- a selection of identifiers by their roles
+-- states that a function selects identifiers by their roles
 pub record Picks (pick : List (Role × ℕ) → List ℕ) : Type 0 where
   pub joined : (xs ys : List (Role × ℕ)) → pick (xs ++ ys) ≡ pick xs ++ pick ys
   pub renamed : (f : ℕ → ℕ) (xs : List (Role × ℕ)) → pick (map (beside_role f) xs) ≡ map f (pick xs)
@@ -145,7 +146,7 @@ take_all zero (x ∷ xs) le = absurd (omega (arith, le))
 take_all (suc n) [] le = refl
 take_all (suc n) (x ∷ xs) le = ap (λ z. x ∷ z) (take_all n xs (omega (arith, le)))
 
--- followed by empty entries
+-- The first n entries of a table don't change if None entries follow.
 reads_first : (n k : ℕ) (table : List (Option ℕ)) (i : ℕ) → i < n → ordinal_in (take n table ++ replicate k None) i ≡ ordinal_in table i
 reads_first zero k table i h = absurd (omega (arith, h))
 reads_first (suc n) k [] i h = none_at k i
@@ -155,7 +156,7 @@ reads_first (suc n) k (o ∷ table) (suc i) h = reads_first n k table i (omega (
 -- ---- lists that are carried over
 
 module _ (range : BodyRange) where
-  -- the new index of a token after the body
+  -- returns the new index of a token after the body
   abbrev pub far : ℕ → ℕ
   far i = i - range.old_closing + range.closing
 
@@ -193,8 +194,8 @@ module _ (range : BodyRange) where
       let here : shifted range x ≡ far x = min-eq_left (let small : x - range.old_closing + range.closing ≤ 2 ^ 64 - 1 = omega (arith, few, k.0) in small) in
       ap (λ b. if b then after_body range xs else shifted range x ∷ after_body range xs) (le-ltb x range.old_closing h.0) ∙ (λ i. here i ∷ after_all high xs few h.1 k.1 i)
 
-  -- carrying over a selection of the old identifiers, with a selection of the new body's, gives the
-  -- selection of all new identifiers
+  -- Keeping a selection of the old identifiers, with a selection of the new body's, gives the
+  -- selection of all new identifiers.
   pub carried_picked : (pick : List (Role × ℕ) → List ℕ) (before own after others : List (Role × ℕ)) (high : ℕ) → Picks pick → Parted before own after range.first range.old_closing high → high + range.closing ≤ 2 ^ 64 - 1
       → carried range (pick (before ++ (own ++ after))) (pick others) ≡ pick (before ++ (others ++ map (beside_role far) after))
   carried_picked pick before own after others high p parts few =

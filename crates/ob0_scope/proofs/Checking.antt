@@ -1,5 +1,5 @@
--- The duplicate declarations of a tree: the lists that loops collect, and the faults of the parts
--- of a module.
+-- Proves that the checks find the duplicate declarations of a tree: the lists that loops collect,
+-- and the faults of the parts of a module.
 use Rattle.std.proofs.Common.{◌≡◌, ℕ, zero, suc, map, take, arith, ◌+◌, ◌<◌, ◌≤◌, Bool, true, false, not, cond, ◌||◌, List, [], ◌∷◌, ◌++◌, length, get_or, drop, refl, sym, ap, ◌∙◌, append-nil, append_assoc, Bor}
 use Rattle.std.proofs.lemmas.List.{drop_all, drop_more}
 use Rattle.std.proofs.lemmas.Map.Text.{is_eq-slice_cmp}
@@ -18,8 +18,7 @@ use Rattle.ob0_language_names.specs.Names.{Name, same_name}
 use Rattle.ob0_language_names.specs.Parts.{constant_names, formal_names, formal_sections, named_types, section_constants, section_types, section_variables, variable_names}
 use Rattle.ob0_language_names.proofs.NameEquality.{same_name-comm}
 
--- states that collecting the remaining items now gives the same list as collecting all items at the
--- start
+-- states that what was collected, with the items still to collect, is what all items give
 pub record Gathering {A B : Type 0} (f : List A → List B) (xs : List A) (start : List B) (done : ℕ) (out : List B) : Type 0 where
   pub so_far : out ++ f (drop done xs) ≡ start ++ f xs
 
@@ -38,11 +37,12 @@ gathers_on f {xs = xs} {done = done} {out = out} x own split w less here e =
           ∙ (sym (ap (λ ys. out ++ f ys) left) ∙ w.so_far)));
     }
 
--- true if a set of texts contains one
+-- true if a set of texts contains this text
 abbrev pub has : BTreeSet (Bor Name) → Name → Bool
 has seen x = contains_by (λ key. slice_cmp nat_cmp x key.now) seen
 
--- states that the set has the names so far
+-- states that the set has the names so far, and that the faults so far and the faults of the other
+-- names are all faults
 pub record Seeing (source : Scanned) (all : List ℕ) (start : List Fault) (done : ℕ) (seen : Name → Bool) (now : List Fault) : Type 0 where
   pub before : List Name
   pub found : (x : Name) → seen x ≡ is_among x before
@@ -85,14 +85,14 @@ swapped true false c = refl
 swapped false true c = refl
 swapped false false c = refl
 
--- one more of the names before a position
+-- A name is among the first done + 1 names if it is the last of these or among the others.
 pub one_further : (text : ℕ → Name) (all : List ℕ) (done : ℕ) (d : ℕ) → done < length all → (q : Name) → is_among q (map text (take (suc done) all)) ≡ (same_name q (text (get_or all done d)) || is_among q (map text (take done all)))
 one_further text [] done d less q = absurd (omega (arith, less))
 one_further text (x ∷ xs) zero d less q = refl
 one_further text (x ∷ xs) (suc done) d less q =
     ap (λ b. same_name q (text x) || b) (one_further text xs done d (omega (arith, less)) q) ∙ swapped (same_name q (text x)) (same_name q (text (get_or xs done d))) (is_among q (map text (take done xs)))
 
--- a record's fields, whichever group is the first
+-- The faults of a record's fields are reported, whichever group is the first.
 pub record_reported : (source : Scanned) (start own after : List Fault) (gs : List Fields) (fs : List ℕ) → fs ≡ groups_fields (items_of further_fields_of_group gs) → own ≡ start ++ again source [] fs
     → after ≡ own ++ groups_twice source (items_of further_fields_of_group gs) → after ≡ start ++ fields_twice source (record_listed gs)
 record_reported source start own after [] fs are e f = f ∙ (append-nil own ∙ (e ∙ ap (λ ns. start ++ again source [] ns) are))
@@ -105,7 +105,7 @@ record_reported source start own after (g ∷ gs) fs are e f =
 five_names : (a b c d e : List ℕ) → (((a ++ b) ++ c) ++ d) ++ e ≡ a ++ (b ++ (c ++ (d ++ e)))
 five_names a b c d e = append_assoc ((a ++ b) ++ c) d e ∙ (append_assoc (a ++ b) c (d ++ e) ∙ append_assoc a b (c ++ (d ++ e)))
 
--- a block, from its names, its types, its variables and its procedures
+-- The faults of a block are reported for its names, its types, its variables and its procedures.
 pub block_reported : (source : Scanned) (start : List Fault) (own : List ℕ) (cs : Tree ℕ (maybe constants)) (ts : Tree ℕ (maybe type_names)) (vs : Tree ℕ (maybe variables)) (ps : Tree ℕ (items procedure)) (statements : Tree ℕ (maybe body))
     (all : List ℕ) (named typed varied after : List Fault) → all ≡ (((own ++ constant_names (section_constants cs)) ++ named_types (section_types ts)) ++ variable_names (section_variables vs)) ++ procedure_names ps
     → named ≡ start ++ again source [] all → typed ≡ named ++ types_twice source (section_types ts) → varied ≡ typed ++ variables_twice source (section_variables vs)
@@ -120,7 +120,7 @@ block_reported source start own cs ts vs ps statements all named typed varied af
     p ∙ (ap (λ z. z ++ P) (v ∙ ap (λ z. z ++ V) (t ∙ ap (λ z. z ++ T) first))
     ∙ (append_assoc ((start ++ D) ++ T) V P ∙ (append_assoc (start ++ D) T (V ++ P) ∙ append_assoc start D (T ++ (V ++ P)))))
 
--- a procedure, from its closing name, its parameters' types and its block
+-- The faults of a procedure are reported for its closing name, its parameters' types and its block.
 pub procedure_reported : (source : Scanned) (start closed typed : List Fault) (x : ℕ) (fs : Tree ℕ (maybe formals)) (b : Tree ℕ block) (closing : ℕ) (own : List ℕ) → closed ≡ start ++ closing_other source x closing
     → typed ≡ closed ++ formals_twice source (formal_sections fs) → own ≡ formal_names (formal_sections fs)
     → typed ++ block_twice source own b ≡ start ++ procedure_twice source (declares_procedure x fs b closing)

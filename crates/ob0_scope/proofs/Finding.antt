@@ -1,4 +1,4 @@
--- A loop that searches parts one by one.
+-- Proves that a loop that searches parts one by one gives the result of the complete search.
 use Rattle.std.proofs.Common.{◌≡◌, ℕ, ◌≤◌, Option, Some, None, List, [], length, drop, refl, sym, ap, ◌∙◌}
 use Rattle.std.proofs.lemmas.List.{drop_all}
 use Rattle.std.specs.Option.{option_or}

@@ -1,4 +1,4 @@
--- A first capture exists exactly if the new name isn't free.
+-- Proves that a first capture exists exactly if the new name isn't free.
 use Rattle.std.proofs.Common.{List, None, Option, Some, [], ap, arith, eq-eqb, eqb-true, false, if◌then◌else◌, length, option_map, refl, suc, sym, true, ℕ, ◌∙◌, ◌∷◌, ◌≡◌}
 use Rattle.ob0_tree.specs.Tree.{Tree, module_text}
 use Rattle.ob0_language_names.specs.Occurrences.{Free, at_declaration, at_occurrence, bindings, first_difference, is_duplicate, same_binding}

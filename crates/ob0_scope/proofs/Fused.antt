@@ -1,5 +1,5 @@
--- Labels made from other labels: the tree with the new labels is the tree with the old ones,
--- mapped.
+-- Proves that relabelling with labels made from other labels is mapping the tree that has the other
+-- labels.
 use Rattle.std.proofs.Common.{◌≡◌, ℕ, suc, ◌∷◌, Some, None, refl}
 use Rattle.ob0_tree.specs.Tree.{Sort, Tree, mapped, block, constant, constants, formals, further_name, further_section, item, items, maybe, module_text, names, procedure, section, type_name, type_names, variable, variables, adds, array_type, assigns, begins, branches, calls, compares, declares, declares_constant, declares_constants, declares_procedure, declares_type, declares_types, declares_variable, declares_variables, designator, else_branch, elsif_branch, empty, end, field, has_body, index, integer, is_module, listed, more, multiplies, named_type, negation, no_arguments, no_fields, no_formals, none, one, parenthesised, product, record_type, relates, repeat_loop, runs, some_arguments, some_fields, some_formals, sum, then_argument, then_fields, then_name, then_section, then_statement, value_section, variable_section, while_loop}
 use Rattle.ob0_language_names.specs.Mapping.{with_names}
@@ -136,7 +136,7 @@ module _ {N M K : Type 0} (naming : Naming N) (f : M → K) (label : Labels N M)
         (block-mapped (declare_names (suc k) (formal_names (formal_sections fs)) ((x, k) ∷ scope)) (after_names (suc k) (formal_names (formal_sections fs))) b i)
         (f (label (Some k) closing))
 
-  -- mapping the labels of a tree is the same as mapping the tree
+  -- Mapping the labels of a tree is the same as mapping the tree.
   pub relabelled-mapped : (m : Tree N module_text) → relabelled naming then_f m ≡ mapped f (λ n. n) (relabelled naming label m)
   relabelled-mapped (is_module x b closing) = λ i. is_module (f (label None x)) (block-mapped (predeclared_scope naming) 7 b i) (f (label None closing))
 

@@ -1,4 +1,5 @@
--- After a walk over a module, the table of its marks and its faults make it a resolved module.
+-- Proves that after a walk over a module, the table of its marks and its faults make it a resolved
+-- module.
 use Rattle.std.proofs.Common.{◌≡◌, ℕ, Bool, true, false, not, ◌||◌, Option, Some, None, List, [], ◌∷◌, ◌++◌, map, length, refl, sym, ap, ◌∙◌, subst, is_some, if◌then◌else◌, replicate, ◌==◌}
 use Rattle.std.proofs.lemmas.List.Folds.{list_any-append}
 use Rattle.std.specs.List.{filter, list_any}
@@ -78,7 +79,7 @@ pub undeclared_unbound : (m : Parsed) (ordinals : List (Option ℕ)) → IsNumbe
 undeclared_unbound m ordinals numbering =
     unbound_all m.source ordinals (occurrences (tree_of m)) ∙ ap (unbound_at m.source (occurrences (tree_of m))) (sym (bindings_by_table m ordinals numbering))
 
--- the faults of declarations, and after them the undeclared names
+-- The faults of a module are the faults of its declarations, then the undeclared names.
 pub faults_reported : (m : Parsed) (ordinals : List (Option ℕ)) → IsNumbering m ordinals → AreFaultsOf m (twice_in m ++ undeclared_at m.source ordinals (occurrences (tree_of m)))
 faults_reported m ordinals numbering =
     let once = twice_in m in
@@ -91,7 +92,7 @@ faults_reported m ordinals numbering =
       undeclared = declarations_left_out once unbound (twice_alone m) ∙ (all_occurrences m.source ordinals (occurrences (tree_of m)) ∙ each);
     }
 
--- a module with its faults and a table that has all its marks is resolved
+-- A module with its faults and a table that has all its marks is resolved.
 pub resolution_marked : (m : Parsed) (ordinals : List (Option ℕ)) (declarations uses : List ℕ) (once faults : List Fault) → IsParsed m → HasMarks (ordinal_in ordinals) (visit_module (tree_of m) (started (as_in m.source))).marks → NamesAlone m ordinals
     → declarations ≡ declaring_only (identifiers role.Declaring (tree_of m)) → uses ≡ occurrences (tree_of m) → once ≡ twice_in m → faults ≡ once ++ undeclared_at m.source ordinals uses
     → IsResolution (record { module_read = m; ordinals = ordinals; declarations = declarations; uses = uses; faults = faults })
@@ -109,7 +110,7 @@ resolution_marked m ordinals declarations uses once faults parsed are_there alon
       reported = subst (AreFaultsOf m) (sym (all ∙ (λ i. twice i ++ undeclared_at m.source ordinals (occurring i)))) (faults_reported m ordinals numbering);
     }
 
--- a visited module with its faults and the table of its marks is resolved
+-- A visited module with its faults and the table of its marks is resolved.
 pub resolution_made : (m : Parsed) (v : Visit) (ordinals : List (Option ℕ)) (declarations uses : List ℕ) (once faults : List Fault) → IsParsed m → v ≡ visit_module (tree_of m) (started (as_in m.source))
     → ordinals ≡ with_marks (replicate (length m.source.tokens) None) v.marks → declarations ≡ v.declarations → uses ≡ v.uses → once ≡ twice_in m → faults ≡ once ++ undeclared_at m.source ordinals uses
     → IsResolution (record { module_read = m; ordinals = ordinals; declarations = declarations; uses = uses; faults = faults })

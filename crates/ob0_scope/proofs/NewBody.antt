@@ -1,7 +1,7 @@
--- If the statements of one body were replaced, the carried-over data, with the new body numbered
--- again, are the bindings of the module. Outside the body both modules have the same labels,
--- because a body declares nothing. A token outside belongs to the module without the body, so its
--- ordinal is unchanged.
+-- Proves that if the statements of one body were replaced, the kept data, with the new body
+-- numbered again, are the bindings of the module. Outside the body both modules have the same
+-- labels, because a body declares nothing. A token outside belongs to the module without the body,
+-- so its ordinal is unchanged.
 use Rattle.std.proofs.Common.{◌≡◌, ◌==◌, ◌||◌, ◌<◌, ◌≤◌, ℕ, ◌+◌, ◌-◌, ◌^◌, Bool, true, false, nat_lt, nat_le, Option, Some, None, List, [], ◌∷◌, ◌++◌, map, length, drop, replicate, get_or, refl, sym, ap, ◌∙◌, subst, arith, append-nil, append_assoc, eq-eqb, eqb-true}
 use Rattle.std.proofs.Math.Dec.{ltb}
 use Rattle.std.proofs.Math.Nat.{min-eq_left}
@@ -92,7 +92,7 @@ names_renamed f (x ∷ xs) = λ i. f x.1 ∷ names_renamed f xs i
 
 -- ---- the identifiers of both modules
 
--- the identifiers before the body, in the old one and in the new one, and after it
+-- states which identifiers are before the body, in the old body, in the new body, and after it
 record Known (old new : Parsed) (way : Way) (range : BodyRange) : Type 0 where
   before : List (Role × ℕ)
   own : List (Role × ℕ)
@@ -167,7 +167,7 @@ module _ (old new : Parsed) (way : Way) (s : SameTokens) (r : IsBodyReplaced old
       (parted so.before (identifiers role.Declaring (body_at way (tree_of old))) so.after so.closes r.first old_closing (length old.source.tokens) r.old_first
       (subst (λ l. Ascending 0 (names_only l) (length old.source.tokens)) so.whole_is (leaves_ascend old r.old_parsed))).few
 
-  -- the old index of the closing name, from the new one
+  -- The old index of the closing name follows from the new one.
   place_is : old_place s new_closing ≡ old_closing
   place_is =
       let back = r.back in
@@ -185,7 +185,7 @@ known_in old new way s range r first closing place =
 
 -- ---- the bindings of tokens outside the body
 
--- states a property of each of some numbers
+-- holds if each of some numbers has a property
 abbrev Each : (ℕ → Type 0) → List ℕ → Type 0
 Each P [] = Unit {0}
 Each P (i ∷ is) = P i × Each P is
@@ -202,7 +202,7 @@ ordinals_of : (source : Scanned) (ordinals : List (Option ℕ)) (xs : List ℕ) 
 ordinals_of source ordinals [] = refl
 ordinals_of source ordinals (x ∷ xs) = ap (λ l. ordinal_in ordinals x ∷ l) (ordinals_of source ordinals xs)
 
--- outside the body, the bindings of names are unchanged
+-- The bindings of names outside the body are unchanged.
 same_outside : (old new : Parsed) (way : Way) (s : SameTokens) (before now : List (Option ℕ)) → IsBodyReplaced old new way s → IsBinding old before → IsBinding new now
     → map (ordinal_in now) (leaves (without way (tree_of new))) ≡ map (ordinal_in before) (leaves (without way (tree_of old)))
 same_outside old new way s before now r was is =
@@ -219,7 +219,7 @@ same_outside old new way s before now r was is =
 
 -- ---- the marks
 
--- states that two tables agree at the tokens that pass a test
+-- holds if two tables agree at the tokens that pass a test
 abbrev AgreeAt : (ℕ → Bool) → (ℕ → Option ℕ) → (ℕ → Option ℕ) → List ℕ → Type 0
 AgreeAt out f g [] = Unit {0}
 AgreeAt out f g (i ∷ is) = (out i ≡ true → f i ≡ g i) × AgreeAt out f g is

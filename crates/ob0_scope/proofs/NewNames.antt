@@ -1,6 +1,7 @@
--- A name that no token of a text has is free: no other declaration has it, and each occurrence
--- remains bound to its declaration. Relabelling each part with such a name keeps the numbers: the
--- new name replaces only the names of that declaration, and no other name is equal to it.
+-- Proves that a name that no token of a text has is free: no other declaration has it, and each
+-- occurrence remains bound to its declaration. Relabelling each part with such a name keeps the
+-- numbers. The new name replaces only the names of that declaration, and no other name is equal to
+-- it.
 use Rattle.std.proofs.Common.{◌≡◌, ◌≤◌, ◌==◌, ◌∙◌, ◌++◌, ◌∷◌, ◌&&◌, ◌||◌, not, [], List, Option, Some, None, Bool, true, false, ℕ, suc, refl, sym, ap, subst, eqb-true, ne_eqb, arith, if◌then◌else◌}
 use Rattle.std.specs.List.{list_any}
 use Rattle.std.proofs.lemmas.Cmp.{nat_list_eq_equiv}
@@ -36,8 +37,8 @@ and-false : (b c : Bool) → c ≡ false → (b && c) ≡ false
 and-false true c e = e
 and-false false c e = refl
 
--- a tree over tokens with its names replaced twice, if at each token this equals a third
--- replacement
+-- Replacing the names of a tree over tokens twice equals a third replacement, if it does so at each
+-- token.
 module _ (f : ℕ → Name) (g : ℕ → ℕ) (look' keep' : Name → Name) (look keep look₂ keep₂ : Name → Label)
     (looks : (i : ℕ) → look (look' (f i)) ≡ look₂ (f i)) (keeps : (i : ℕ) → keep (keep' (f i)) ≡ keep₂ (f i)) where
   twice : {s : Sort} (t : Tree ℕ s) → with_names look keep (with_names look' keep' (mapped f g t)) ≡ with_names look₂ keep₂ (mapped f g t)
@@ -95,8 +96,8 @@ module _ (f : ℕ → Name) (g : ℕ → ℕ) (look' keep' : Name → Name) (loo
   twice (has_body ds b) = λ i. has_body (twice ds i) (twice b i)
   twice (is_module name b closing) = λ i. is_module (keeps name i) (twice b i) (keeps closing i)
 
--- f gives the name of each token, which is never the new name of the declaration d; `here` is a
--- scope of the text, and `there` a scope of the text in which d has the new name
+-- f gives the name of each token, which is never the new name of the declaration d. `here` is a
+-- scope of the text, and `there` a scope of the text in which d has the new name.
 module _ (d : ℕ) (new : Name) (f : ℕ → Name) (g : ℕ → ℕ) (fresh : (i : ℕ) → same_name (f i) new ≡ false) where
   abbrev ren : Labels Name Name
   ren = new_name d new
@@ -104,7 +105,7 @@ module _ (d : ℕ) (new : Name) (f : ℕ → Name) (g : ℕ → ℕ) (fresh : (i
   abbrev label : Labels Name Label
   label = as_label as_names
 
-  -- states that the replacement of a name has the same binding as the name
+  -- holds if the replacement of each name has the same binding as the name
   abbrev Agrees : Scope Name → Scope Name → Type 0
   Agrees there here = (y : Name) → same_name y new ≡ false → ordinal_of as_names there (ren (ordinal_of as_names here y) y) ≡ ordinal_of as_names here y
 
@@ -116,7 +117,7 @@ module _ (d : ℕ) (new : Name) (f : ℕ → Name) (g : ℕ → ℕ) (fresh : (i
   all_new-append [] ys a b = b
   all_new-append (x ∷ xs) ys a b = (a.0, all_new-append xs ys a.1 b)
 
-  -- one more binding in each scope
+  -- Declaring one more name in each scope keeps them in agreement.
 
   step : (there : Scope Name) (x y : Name) (o : Option ℕ) (j k : ℕ) (s e c : Bool) → same_name y x ≡ s → (k == d) ≡ e → same_ordinal o d ≡ c
       → same_name x new ≡ false → same_name y new ≡ false → j ≡ k → ordinal_of as_names there (if c then new else y) ≡ o
@@ -144,12 +145,12 @@ module _ (d : ℕ) (new : Name) (f : ℕ → Name) (g : ℕ → ℕ) (fresh : (i
   agrees_names (x ∷ xs) all there here j k jk agrees =
       agrees_names xs all.1 ((ren (Some k) x, j) ∷ there) ((x, k) ∷ here) (suc j) (suc k) (ap suc jk) (agrees_one there here x j k all.0 jk agrees)
 
-  -- the relabelled names of a list
+  -- Declaring the relabelled names of a list keeps the scopes in agreement.
   agrees_listed : (j k : ℕ) → j ≡ k → (xs ys : List Name) → ys ≡ label_names ren k xs → AllNew xs → (there here : Scope Name) → Agrees there here → Agrees (declare_names j ys there) (declare_names k xs here)
   agrees_listed j k jk xs ys e all there here agrees =
       subst (λ zs. Agrees (declare_names j zs there) (declare_names k xs here)) (sym e) (agrees_names xs all there here j k jk agrees)
 
-  -- no name of the text is the new name
+  -- No name of the text is the new name.
 
   new_further : (ns : Tree ℕ (items further_name)) → AllNew (further_names (mapped f g ns))
   new_further end = tt
@@ -197,7 +198,7 @@ module _ (d : ℕ) (new : Name) (f : ℕ → Name) (g : ℕ → ℕ) (fresh : (i
   new_formals (one no_formals) = tt
   new_formals (one (some_formals s fs)) = new_sections (more (then_section s) fs)
 
-  -- the scopes of a block agree if the scopes before it do
+  -- The scopes of a block agree if the scopes before it do.
 
   agrees_types : (there here : Scope Name) (j k : ℕ) → j ≡ k → Agrees there here → (b : Tree ℕ block)
       → Agrees (types_scope j (relabel_block as_names ren here k (mapped f g b)) there) (types_scope k (mapped f g b) here)
@@ -242,7 +243,7 @@ module _ (d : ℕ) (new : Name) (f : ℕ → Name) (g : ℕ → ℕ) (fresh : (i
       agrees_procedure_names (procedures_scope k b here) (procedures_scope j b' there) (procedures_scope k b here) (first_procedure j b') (first_procedure k b) (first_procedure-relabel as_names ren here j k b jk)
       (agrees_procedures there here j k jk agrees (has_body (declares cs ts vs ps) statements)) ps
 
-  -- each relabelled part has the same numbers
+  -- Each relabelled part has the same numbers.
 
   label-kept : (o : Option ℕ) (x : Name) → label o (ren o x) ≡ label o x
   label-kept None x = refl
@@ -361,7 +362,7 @@ module _ (d : ℕ) (new : Name) (f : ℕ → Name) (g : ℕ → ℕ) (fresh : (i
         (agrees_listed (suc j) (suc k) (ap suc jk) _ _ labelled (new_formals fs) ((ren (Some k) (f x), j) ∷ there) ((f x, k) ∷ here) (agrees_one there here (f x) j k (fresh x) jk agrees)) b i)
         (declared (jk i))
 
-  -- the predeclared names keep their bindings if the declaration isn't one of them
+  -- The predeclared names keep their bindings if the declaration isn't one of them.
 
   abbrev Others : Scope Name → Type 0
   Others [] = Unit {0}
@@ -389,7 +390,7 @@ module _ (d : ℕ) (new : Name) (f : ℕ → Name) (g : ℕ → ℕ) (fresh : (i
       let scope : Scope Name = predeclared_scope as_names in
       ap occurrences (λ i. is_module (as_written (f x)) (block_same scope scope 7 7 refl (agrees_predeclared h) b i) (as_written (f closing)))
 
-  -- states that no other declaration has the name
+  -- holds if no other declaration has the name
 
   abbrev NewScope : Scope Name → Type 0
   NewScope [] = Unit {0}
@@ -430,6 +431,6 @@ module _ (d : ℕ) (new : Name) (f : ℕ → Name) (g : ℕ → ℕ) (fresh : (i
         ∙ (λ i. no_clash-block (after_names (suc k) (formal_names (formal_sections (mapped f g fs)))) (declare_names (suc k) (formal_names (formal_sections (mapped f g fs))) []) (new_names (suc k) (formal_names (formal_sections (mapped f g fs))) [] (new_formals fs) tt) b i
         || no_clash-procedures (after_procedure (suc k) p) ps i)
 
-  -- a name that no token has is free
+  -- A name that no token has is free.
   pub new_is_free : 7 ≤ d → (m : Tree ℕ module_text) → Free (mapped f g m) d new
   new_is_free h (is_module x b closing) = (no_clash-block 7 [] tt b, bindings_same h (is_module x b closing))

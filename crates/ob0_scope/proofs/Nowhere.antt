@@ -1,4 +1,5 @@
--- A name that no token of a text has: the search for it token by token, and its consequences.
+-- Proves that if a search token by token finds no token with a name, no token has it, and that such
+-- a name is free.
 use Rattle.std.proofs.Common.{◌≡◌, ◌↔◌, ◌≤◌, ◌<◌, ◌+◌, ◌⊎◌, inl, inr, ◌∙◌, ◌∷◌, [], Option, None, false, ℕ, ◌==◌, length, refl, sym, ap, subst, arith}
 use Rattle.std.proofs.lemmas.Bool.{cases_lt}
 use Rattle.std.proofs.lemmas.Option.{slice_get_past}
@@ -32,7 +33,7 @@ nowhere source x n named all before i = each (cases_lt i n)
     each (inl less) = before i less
     each (inr more) = ap (λ t. same_name (text_in source.text t) x) (slice_get_past source.tokens i (omega (arith, all, more))) ∙ nameless x named
 
--- a name that no token has is free
+-- A name that no token has is free.
 nowhere_is_free : (m : Parsed) (source : Scanned) (d : ℕ) (new : Name) → 7 ≤ d → source ≡ m.source → IsNowhere source new → Free (named_tree_of m) d new
 nowhere_is_free m source d new h is all =
     new_is_free d new (text_at m.source) (value_at m.source) (subst (λ (s : Scanned). IsNowhere s new) is all) h (tree_of m)

@@ -1,4 +1,5 @@
--- The identifiers of a module and their bindings, from the table of ordinals and by token.
+-- Proves which identifiers are at a place and which are bound to a declaration, by the table of
+-- ordinals and by token.
 use Rattle.std.proofs.Common.{◌≡◌, ℕ, ◌+◌, Bool, true, false, not, cond, ◌&&◌, ◌||◌, Option, Some, None, List, [], ◌∷◌, ◌++◌, map, length, refl, sym, ap, ◌∙◌, subst, option_map, option_and_then, slice_get, append_assoc, arith, length-append}
 use Rattle.std.specs.List.{filter, find, position_from, zip}
 use Rattle.ob0_scan.specs.Scanned.{Scanned}
@@ -26,7 +27,7 @@ use Rattle.ob0_scope.specs.Listing.{is_identifier, is_name_on}
 use Rattle.ob0_scope_table.specs.Spans.{is_on}
 use Rattle.ob0_scope.specs.NamesAtPlaces.{BoundIdentifier, is_declaring, name_on, named_by, refers, bound_identifiers, tokens_bound}
 
--- an identifier with the label of its token
+-- returns an identifier with the label of its token
 abbrev bound_by : (ℕ → Label) → Role × ℕ → BoundIdentifier
 bound_by label x = (x, label x.1)
 
@@ -54,11 +55,11 @@ bound_to source ordinals d i = one (ordinal_in ordinals i)
 abbrev pub is_listed : List (Option ℕ) → Bool → ℕ → Role × ℕ → Bool
 is_listed ordinals include d x = same_ordinal (ordinal_in ordinals x.1) d && (include || not (is_declaring x.0))
 
--- the identifiers of a declaration in the table, with or without the declaring one
+-- returns the identifiers of a declaration by the table, with or without the declaring one
 abbrev pub tokens_listed : List (Option ℕ) → Bool → ℕ → List (Role × ℕ) → List ℕ
 tokens_listed ordinals include d xs = map (λ x. x.1) (filter (is_listed ordinals include d) xs)
 
--- filtering the identifiers and filtering the labelled identifiers give the same tokens
+-- Filtering the identifiers and filtering the labelled identifiers give the same tokens.
 listed : (source : Scanned) (ordinals : List (Option ℕ)) (include : Bool) (d : ℕ) (xs : List (Role × ℕ))
     → tokens_listed ordinals include d xs ≡ map (λ (s : BoundIdentifier). s.0.1) (filter (refers include d) (map (bound_by (label_at source ordinals)) xs))
 listed source ordinals include d [] = refl
@@ -81,7 +82,7 @@ bound_listed r d include is =
 
 -- places
 
--- states that each of these tokens has this span, starting at an index
+-- holds if the tokens, counted from i, have these spans
 abbrev SpansAre : (ℕ → Span) → ℕ → List Token → Type 0
 SpansAre span i [] = Unit {0}
 SpansAre span i (t ∷ ts) = (span i ≡ t.span) × SpansAre span (i + 1) ts
@@ -117,7 +118,7 @@ found_from offset span i (t ∷ ts) h =
     one true later = refl
     one false later = refl
 
--- the name at a token, from its ordinal
+-- returns the name at a token, from its ordinal
 abbrev pub named_so : List (Option ℕ) → ℕ → Option named.Named
 named_so ordinals i = option_map {U = named.Named} (λ ordinal. record { token = i; ordinal = ordinal }) (ordinal_in ordinals i)
 
@@ -139,7 +140,7 @@ found_named source ordinals offset (x ∷ xs) = one (is_on offset (span_at sourc
     one true found later e = label_back source ordinals x
     one false found later e = e
 
--- the name at a place, from the token of the first identifier there
+-- The name at a place is the name at the token of the first identifier there.
 pub name_found : (r : Resolution) (offset : ℕ) → IsResolution r → option_and_then (named_so r.ordinals) (position_from (is_name_on offset) 0 r.module_read.source.tokens) ≡ name_on r.module_read offset
 name_found r offset is =
     let m = r.module_read in

@@ -1,4 +1,5 @@
--- If the tokens of one body change, the names outside have the same bindings as before.
+-- Proves that if the tokens of one body change, the names outside it have the same bindings as
+-- before.
 use Rattle.std.proofs.Common.{◌≡◌, ◌==◌, ◌||◌, ℕ, Bool, true, false, Option, None, List, [], ◌∷◌, refl, sym, ap, ◌∙◌, eqb-true}
 use Rattle.std.specs.List.{list_any}
 use Rattle.ob0_scan.specs.Scanned.{Scanned}

@@ -1,5 +1,5 @@
--- Visiting a module with a new name for a declaration gives the numbered tree of the renamed
--- module.
+-- Proves that visiting a module with a new name for a declaration gives the numbered tree of the
+-- renamed module.
 use Rattle.std.proofs.Common.{◌≡◌, ℕ, suc, ◌+◌, Bool, true, false, not, cond, if◌then◌else◌, Option, Some, None, List, [], ◌∷◌, map, length, replicate, refl, sym, ap, ◌∙◌, option_map, arith}
 use Rattle.std.specs.List.{position_from}
 use Rattle.ob0_tree.specs.Parsed.{named_tree_of, tree_of}
@@ -23,7 +23,7 @@ use Rattle.ob0_scope_numbering.proofs.Tables.{marks_in_table}
 abbrev new_or : ℕ → Name → Option ℕ × Name → Name
 new_or d new p = if same_ordinal p.0 d then new else p.1
 
--- the renamed module is the tree with its names as they are spelled
+-- The renamed module is the tree with its names as they are spelled.
 pub renamed_spelled : (r : Resolution) (d : ℕ) (new : Name) → IsResolution r → renamed (named_tree_of r.module_read) d new ≡ spelled_by (renamed_in r d new) (tree_of r.module_read)
 renamed_spelled r d new is =
     let m = r.module_read in
@@ -38,7 +38,7 @@ renumbered r d new v ordinals is gone tabled =
     let passed = module_passed (ordinal_in ordinals) (as_label as_names) w (tree_of m) (started w) (at_start w) in
     ap numbered (renamed_spelled r d new is) ∙ (passed.agree (marks_in_table m w v ordinals is.parsed gone tabled)).1
 
--- the bindings of the renamed module
+-- The bindings of the renamed module are the table's labels at the occurrences.
 renamed_bindings : (r : Resolution) (d : ℕ) (new : Name) (ordinals : List (Option ℕ)) → IsResolution r → IsRenumbering r d new ordinals
     → bindings (renamed (named_tree_of r.module_read) d new) ≡ map (λ i. as_label as_names (ordinal_in ordinals i) (name_at (renamed_in r d new) i)) r.uses
 renamed_bindings r d new ordinals is numbering =
@@ -54,7 +54,7 @@ ordinals_back written ordinals (i ∷ is) = λ j. back (ordinal_in ordinals i) (
     back None x = refl
     back (Some k) x = refl
 
--- the ordinals to which the occurrences are bound in the renamed module
+-- The table has the ordinals to which the occurrences are bound in the renamed module.
 pub ordinals_renamed : (r : Resolution) (d : ℕ) (new : Name) (ordinals : List (Option ℕ)) → IsResolution r → IsRenumbering r d new ordinals
     → map (ordinal_in ordinals) r.uses ≡ map label_ordinal (bindings (renamed (named_tree_of r.module_read) d new))
 ordinals_renamed r d new ordinals is numbering =
@@ -66,7 +66,7 @@ alike d new x None (Some k) = refl
 alike d new x (Some j) None = refl
 alike d new x (Some j) (Some k) = refl
 
--- an index plus the result of a search from there
+-- returns k plus the result of a search that starts at k
 abbrev onward : ℕ → Option ℕ → Option ℕ
 onward k found = option_map (λ n. k + n) found
 

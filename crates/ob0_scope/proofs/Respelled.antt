@@ -1,7 +1,7 @@
--- Bindings are unchanged if the tokens of a text are named as before. The numbers of a tree are in
--- no scope, so the facts about each part hold for any numbers. The table of the old text has all
--- marks of its module, so it numbers the new one. Faults have spans, which may move; if all tokens
--- have the same spellings, the faults are at the same tokens.
+-- Proves that bindings don't change if the tokens of a text are named as before. The numbers of a
+-- tree are in no scope, so the facts about each part hold for any numbers. The table of the old
+-- text has all marks of its module, so it numbers the new one. Faults have spans, which may move.
+-- If all tokens have the same spellings, the faults are at the same tokens.
 use Rattle.std.proofs.Common.{◌≡◌, ◌<◌, ℕ, zero, suc, Bool, true, false, not, ◌||◌, Option, Some, None, List, [], ◌∷◌, ◌++◌, length, map, drop, get_or, slice_get, is_some, if◌then◌else◌, refl, sym, ap, ◌∙◌, subst, arith}
 use Rattle.std.specs.List.{HoldsAt, filter, list_any}
 use Rattle.ob0_scan.specs.declared.fault.Fault.{Fault}
@@ -61,7 +61,7 @@ all_texts : (old new : Scanned) → AreNamedAlike old new → (g : ℕ → ℕ) 
 all_texts old new w g [] h = tt
 all_texts old new w g (x ∷ xs) h = (texts old.text new.text old.tokens new.tokens x.1 w.same_kinds w.same_names h.0.0 h.0.1, all_texts old new w g xs h.1)
 
--- values made from each identifier and its spelling are also the same
+-- Values made from each identifier and its spelling are also the same.
 all_through : {M : Type 0} (f : ℕ → Name → M) (n m : ℕ → Name) (g : ℕ → ℕ) (xs : List (Role × ℕ)) → AllAlike n m g xs → AllAlike (λ i. f i (m i)) (λ i. f i (n i)) g xs
 all_through f n m g [] h = tt
 all_through f n m g (x ∷ xs) h = (sym (ap (f x.1) h.0), all_through f n m g xs h.1)

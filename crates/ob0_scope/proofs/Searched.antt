@@ -1,4 +1,4 @@
--- The search over indexes of tokens gives the same result as the blocks' scopes.
+-- Proves that the search over indexes of tokens gives the same result as the blocks' scopes.
 use Rattle.std.proofs.Common.{◌≡◌, ℕ, suc, Bool, true, false, not, ◌&&◌, ◌||◌, ◌==◌, if◌then◌else◌, Option, Some, None, List, [], ◌∷◌, ◌++◌, map, refl, sym, ap, ◌∙◌}
 use Rattle.std.proofs.lemmas.List.{map-append}
 use Rattle.std.specs.List.{list_any}
@@ -19,7 +19,7 @@ use Rattle.ob0_language_names.proofs.DistinctNames.{labels_in, onto, onto-append
 use Rattle.ob0_language_names.proofs.RenamedDeclarations.{labels_in-block, labels_in-names, sections-labels}
 use Rattle.ob0_language_names.proofs.Relabelled.{formals-section}
 
--- names of a tree with other leaves
+-- Mapping the leaves of a tree maps the names of its parts.
 
 further-with : {N M : Type 0} (f : N → M) (g : ℕ → ℕ) (ns : Tree N (items further_name)) → further_names (mapped f g ns) ≡ map f (further_names ns)
 further-with f g end = refl
@@ -82,7 +82,7 @@ block-with f g (has_body (declares cs ts vs ps) statements) =
     ∙ map-append₄ f (constant_names (section_constants cs)) (named_types (section_types ts)) (variable_names (section_variables vs)) (procedure_names ps)
 
 module _ (d : ℕ) (new : Name) where
-  -- the same search over trees in which each identifier is its ordinal and its name
+  -- an identifier as its ordinal and its name, for the same search over trees of these
   abbrev Bound : Type 0
   Bound = Option ℕ × Name
 
@@ -216,7 +216,7 @@ module _ (d : ℕ) (new : Name) where
   module_scopes : (m : Tree Name module_text) → new_in_block [] (module_block (relabelled as_names with_ordinal m)) ≡ namesake m d new
   module_scopes (is_module x b closing) = block_scopes (predeclared_scope as_names) 7 [] [] b refl
 
--- the result of the search in a module's block
+-- The search in a module's block finds the namesake.
 pub namesake_found : (r : Resolution) (d : ℕ) (new : Name) → IsResolution r → found_in_block (record { source = r.module_read.source; ordinals = r.ordinals; declaration = d; new = new }) [] (module_block (tree_of r.module_read)) ≡ namesake (named_tree_of r.module_read) d new
 namesake_found r d new is =
     block_bound d new r [] (module_block (tree_of r.module_read))

@@ -1,5 +1,5 @@
--- The bindings that one name would have in place of each occurrence are its bindings if all
--- occurrences are replaced by it. `number` visits the text with the name at each occurrence. Labels
+-- Proves that the bindings that one name would have in place of each occurrence are its bindings if
+-- it replaces all occurrences. `number` visits the text with the name at each occurrence. Labels
 -- without names (`forget`) make the trees comparable by their occurrences only, so no walk over
 -- expressions and statements is needed.
 use Rattle.std.proofs.Common.{◌≡◌, ◌≢◌, ℕ, suc, ◌+◌, ◌<◌, ◌≤◌, Option, Some, None, List, [], ◌∷◌, ◌++◌, map, length, replicate, set, refl, sym, ap, ◌∙◌, subst, arith, le_refl, get_or-set_other, get_or-set_same, true, false, if◌then◌else◌, nat_lt, option_and_then, option_map, slice_get}
@@ -32,8 +32,7 @@ use Rattle.ob0_language_names.proofs.OccurrencesMapped.{occurrences-mapped}
 use Rattle.ob0_scope_numbering.proofs.Passing.{at_start, module_passed, tokens_of}
 use Rattle.ob0_scope_numbering.proofs.Tables.{kept_below, marks_in_table}
 
--- states that f gives the spelling y to a looked-up identifier, and the text's spelling h to any
--- other
+-- holds if f gives the spelling y to a looked-up identifier, and the text's spelling h to any other
 abbrev Sought : Name → (ℕ → Name) → (ℕ → Name) → Role → ℕ → Type 0
 Sought y f h role.LookedUp i = f i ≡ y
 Sought y f h role.Declaring i = f i ≡ h i
@@ -61,7 +60,7 @@ looked_up-written y f h ((role.ClosingName, i) ∷ xs) a = looked_up-written y f
 looked_up-written y f h ((role.FieldName, i) ∷ xs) a = looked_up-written y f h xs a.1
 looked_up-written y f h ((role.ModuleName, i) ∷ xs) a = looked_up-written y f h xs a.1
 
--- labels that have no names
+-- labels that have only ordinals, and no names
 abbrev forget : {N : Type 0} → Labels N (Option ℕ)
 forget ordinal x = ordinal
 
@@ -90,7 +89,7 @@ module _ (y : Name) (f h : ℕ → Name) (g : ℕ → ℕ) where
       → occurrences (relabel_uses as_names forget scope (mapped f g t)) ≡ occurrences (relabel_uses (looking_for y) forget scope (mapped h g t))
   part_alike scope t a = uses_alike role.Declaring (λ n xs. refl) scope t a
 
-  -- the declared names are the names of the text
+  -- The declared names are the names of the text.
   further_same : (ns : Tree ℕ (items further_name)) → AllSought y f h (identifiers role.Declaring ns) → further_names (mapped f g ns) ≡ further_names (mapped h g ns)
   further_same end a = refl
   further_same (more (then_name x) rest) a = λ i. a.0 i ∷ further_same rest a.1 i
@@ -144,7 +143,7 @@ module _ (y : Name) (f h : ℕ → Name) (g : ℕ → ℕ) where
   variable_section_same none a = refl
   variable_section_same (one (declares_variables vs)) a = variables_same vs a
 
-  -- the parts of a block's and of a procedure's identifiers
+  -- states a property of all parts of a block's or a procedure's identifiers
   record OfBlock (cs ts vs ps statements : List (Role × ℕ)) : Type 0 where
     constants_are : AllSought y f h cs
     types_are : AllSought y f h ts
@@ -200,7 +199,7 @@ module _ (y : Name) (f h : ℕ → Name) (g : ℕ → ℕ) where
       (λ i. declare_procedure_names (after_procedure_same (suc k) p b.0 i) (mapped f g rest) ((procedure_same p b.0 i, k) ∷ scope))
       ∙ procedures_declared (after_procedure (suc k) (mapped h g p)) rest ((procedure_name (mapped h g p), k) ∷ scope) b.1
 
-  -- each occurrence of a part
+  -- Each occurrence of a part has the same ordinal in both.
   constants_alike : (scope : Scope Name) (k : ℕ) (cs : Tree ℕ (items constant)) → AllSought y f h (identifiers role.Declaring cs)
       → occurrences (relabel_constants as_names forget scope k (mapped f g cs)) ≡ occurrences (relabel_constants (looking_for y) forget scope k (mapped h g cs))
   constants_alike scope k end a = refl
@@ -295,7 +294,7 @@ module _ (y : Name) (f h : ℕ → Name) (g : ℕ → ℕ) where
   module_alike (is_module x b closing) a =
       block_alike (predeclared_scope as_names) 7 b (split y f h (identifiers role.Declaring b) ((role.ModuleName, closing) ∷ []) a.1).0
 
--- labels without names are the ordinals of labels
+-- Labels without names are the ordinals of labels with names.
 forgotten : (naming : Naming Name) (m : Tree Name module_text) → occurrences (relabelled naming forget m) ≡ map label_ordinal (occurrences (relabelled naming (as_label naming) m))
 forgotten naming m =
     ap (λ (l : Labels Name (Option ℕ)). occurrences (relabelled naming l m)) (λ i o x. sym (back o x) i)
@@ -305,8 +304,8 @@ forgotten naming m =
     back None x = refl
     back (Some k) x = refl
 
--- states that the table of the occurrences has the first ordinal at each occurrence, and none at
--- other identifiers
+-- holds if the table of the occurrences has ordinal 0 at an occurrence, and None at any other
+-- identifier
 abbrev pub IsMarked : List (Option ℕ) → Role → ℕ → Type 0
 IsMarked table role.LookedUp i = ordinal_in table i ≡ Some 0
 IsMarked table role.Declaring i = ordinal_in table i ≡ None
@@ -371,7 +370,7 @@ nothing_there n i =
       | false ↦ (λ e. let past : n ≤ i = ltb-false i n e in get_or_past (replicate n none) i none (subst (λ l. l ≤ i) (sym (length-replicate n none)) past))
     ]) refl
 
--- the table of a module's occurrences
+-- returns the table that has ordinal 0 at each occurrence of a module
 abbrev pub occurrence_table : Resolution → List (Option ℕ)
 occurrence_table r = with_marks (replicate (length r.module_read.source.tokens) None) (map first_at r.uses)
 
@@ -386,7 +385,7 @@ uses_reported r is =
     let reported = all_reported 0 count ids (replicate count none) (leaves_ascend m is.parsed) long (λ i le. nothing_there count i) in
     subst (λ (t : List (Option ℕ)). AllMarked t ids) (ap (λ us. with_marks (replicate count none) (map first_at us)) found) reported
 
--- so the identifiers have the sought spellings
+-- The identifiers have the sought spellings.
 all_sought : (source : Scanned) (table : List (Option ℕ)) (y : Name) (xs : List (Role × ℕ)) → AllMarked table xs
     → AllSought y (name_at (record { source = source; ordinals = table; declaration = Some 0; new = y })) (text_at source) xs
 all_sought source table y [] a = tt
@@ -396,8 +395,8 @@ all_sought source table y ((role.ClosingName, i) ∷ xs) a = (ap (λ o. if same_
 all_sought source table y ((role.FieldName, i) ∷ xs) a = (ap (λ o. if same_ordinal o 0 then y else text_at source i) a.0, all_sought source table y xs a.1)
 all_sought source table y ((role.ModuleName, i) ∷ xs) a = (ap (λ o. if same_ordinal o 0 then y else text_at source i) a.0, all_sought source table y xs a.1)
 
--- visiting a module with one name at all occurrences gives the bindings of that name in place of
--- each
+-- Visiting a module with one name at all occurrences gives the bindings of that name in place of
+-- each.
 pub seen_in_places : (r : Resolution) (y : Name) (v : Visit) (sought ordinals : List (Option ℕ)) → IsResolution r → sought ≡ with_marks (replicate (length r.module_read.source.tokens) None) (map first_at r.uses)
     → v ≡ visit_module (tree_of r.module_read) (started (record { source = r.module_read.source; ordinals = sought; declaration = Some 0; new = y }))
     → ordinals ≡ with_marks (replicate (length r.module_read.source.tokens) None) v.marks → map (ordinal_in ordinals) r.uses ≡ ordinals_seen (named_tree_of r.module_read) y
@@ -414,7 +413,7 @@ seen_in_places r y v sought ordinals is table gone tabled =
     ∙ (module_alike y (name_at w) (text_at m.source) (value_at m.source) (tree_of m) (all_sought m.source sought y ids reported_so)
     ∙ forgotten (looking_for y) (named_tree_of m))))
 
--- each entry of the list is the binding of the name in that place
+-- Each entry of the list is the binding of the name in that place.
 pub sees_entry : (m : Tree Name module_text) (y : Name) (k : ℕ) → option_and_then (λ o. o) (slice_get (ordinals_seen m y) k) ≡ sees m k y
 sees_entry m y k =
     let ls = occurrences (relabelled (looking_for y) (as_label (looking_for y)) m) in

@@ -1,5 +1,5 @@
--- If the statements of one body were replaced or changed, names are declared once exactly if they
--- were before, because a body declares nothing.
+-- Proves that if the statements of one body were replaced or changed, names are declared once
+-- exactly if they were before. A body declares nothing.
 use Rattle.std.proofs.Common.{◌≡◌, ℕ, zero, suc, Bool, true, false, not, ◌&&◌, ◌||◌, List, [], ◌∷◌, ◌++◌, length, refl, sym, ap, ◌∙◌}
 use Rattle.std.specs.List.{list_any}
 use Rattle.ob0_scan.specs.declared.fault.Fault.{Fault}
@@ -52,7 +52,7 @@ mutual
 once_without : (way : Way) (t : Tree Name module_text) → declared_once (without way t) ≡ declared_once t
 once_without way (is_module x b closing) = ap (λ c. same_name x closing && c) (block_without_once way [] b)
 
--- two trees with two readings of their names and numbers, which are the same without a body
+-- Two trees that are the same without a body agree on whether names are declared once.
 once_outside : (way : Way) (a b : Scanned) (s t : Tree ℕ module_text) → named a (without way s) ≡ named b (without way t) → declared_once (named a s) ≡ declared_once (named b t)
 once_outside way a b s t same =
     sym (once_without way (named a s))
@@ -81,7 +81,7 @@ nothing_left (f ∷ fs) e h = absurd (one (is_of_declarations f) e h)
     one true e h = absurd (cc)
     one false e h = absurd (cc)
 
--- a module has no fault of declarations if a list has none, and the list has some exactly if the
--- module does
+-- A module has no fault of declarations if `known` has none. The list has one exactly if the module
+-- does.
 pub nothing_twice : (m : Parsed) (known : List Fault) → list_any is_of_declarations known ≡ not (declared_once (named_tree_of m)) → list_any is_of_declarations known ≡ false → twice_in m ≡ []
 nothing_twice m known e h = nothing_left (twice_in m) (twice_where m ∙ (sym e ∙ h)) (twice_alone m)

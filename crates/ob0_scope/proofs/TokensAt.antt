@@ -1,5 +1,5 @@
--- The first identifier at a place, found by binary search: it is the first token that doesn't end
--- before the place, or the next one.
+-- Proves that binary search finds the first identifier at a place: it is the first token that
+-- doesn't end before the place, or the next one.
 use Rattle.std.proofs.Common.{◌≡◌, ℕ, zero, suc, ◌+◌, ◌<◌, ◌≤◌, Bool, true, false, cond, List, [], ◌∷◌, ◌++◌, length, get_or, Some, None, refl, ap, ◌∙◌, sym, subst, arith, add-zero}
 use Rattle.std.specs.Prelude.{nat_le, nat_lt}
 use Rattle.std.specs.List.{position_from}

@@ -1,8 +1,8 @@
--- The tokens that are bound to a declaration are those at which the table has its ordinal. The
--- declaring token is the first of them. A table has nothing at tokens that aren't names
--- (`names_alone`). Each declaring identifier has the next ordinal, and every other one has the
--- ordinal of an earlier declaration or none (`AreInOrder`). So the first of the identifiers with an
--- ordinal is the declaring one.
+-- Proves that the tokens that are bound to a declaration are those at which the table has its
+-- ordinal. The declaring token is the first of them. A table has no ordinals at tokens that aren't
+-- names (`names_alone`). Each declaring identifier has the next ordinal, and every other one has
+-- the ordinal of an earlier declaration or none (`AreInOrder`). So the first of the identifiers
+-- with an ordinal is the declaring one.
 use Rattle.std.proofs.Common.{◌≡◌, ◌≢◌, ◌==◌, ◌<◌, ◌≤◌, ℕ, zero, suc, ◌+◌, ◌-◌, Bool, true, false, not, cond, ◌&&◌, ◌||◌, if◌then◌else◌, Option, Some, None, List, [], ◌∷◌, map, length, drop, get_or, refl, sym, ap, ◌∙◌, subst, arith, append-nil, replicate, slice_get, eq-eqb, eqb-true, le_refl}
 use Rattle.std.proofs.Math.Dec.{ltb}
 use Rattle.std.proofs.lemmas.Bool.{eqb-false, ltb-false, ltb-true}
@@ -36,7 +36,7 @@ marks_same : (f g : ℕ → Option ℕ) (ms : List OrdinalMark) → map f (token
 marks_same f g [] e h = tt
 marks_same f g (m ∷ ms) e h = (sym (ap (λ l. get_or l 0 None) e) ∙ h.0, marks_same f g ms (ap (drop 1) e) h.1)
 
--- the table of a resolution has all marks of its module
+-- The table of a resolution has all marks of its module.
 pub marks_resolved : (r : Resolution) → IsResolution r → HasMarks (ordinal_in r.ordinals) (visit_module (tree_of r.module_read) (started (as_in r.module_read.source))).marks
 marks_resolved r is =
     let m = r.module_read in
@@ -61,7 +61,7 @@ in_order r is =
 
 -- ---- the entries of a table at identifiers that ascend; it has no other entries
 
--- states that numbers ascend, starting at or above a number
+-- holds if numbers ascend, starting at or above a number
 abbrev Rising : ℕ → List ℕ → Type 0
 Rising low [] = Unit {0}
 Rising low (x ∷ xs) = (low ≤ x) × Rising (x + 1) xs
@@ -96,7 +96,7 @@ in_table os i d e = one (ltb i (length os)) refl
     one false less = absurd (some_none (sym e ∙ get_or_past os i None (ltb-false i (length os) less)))
 
 module _ (ordinals : List (Option ℕ)) (d : ℕ) where
-  -- states that the table has no entries at other tokens, starting at a token
+  -- holds if the table has no ordinals at other tokens, starting at a token
   abbrev Alone : ℕ → List ℕ → Type 0
   Alone low xs = (j : ℕ) → low ≤ j → list_any (λ i. i == j) xs ≡ false → ordinal_in ordinals j ≡ None
 
@@ -110,7 +110,7 @@ module _ (ordinals : List (Option ℕ)) (d : ℕ) where
           one false e = refl
           one true e = absurd (omega (arith, after, eqb-true x j e))
 
-  -- states that these are the table's entries, starting at a token
+  -- holds if these are the table's entries, starting at a token
   abbrev Are : ℕ → List (Option ℕ) → Type 0
   Are i os = (k : ℕ) → ordinal_in os k ≡ ordinal_in ordinals (i + k)
 
@@ -123,7 +123,7 @@ module _ (ordinals : List (Option ℕ)) (d : ℕ) where
   with_none : (i : ℕ) (o : Option ℕ) (os : List (Option ℕ)) → o ≡ None → tokens_with None d i (o ∷ os) ≡ tokens_with None d (i + 1) os
   with_none i o os e = ap (λ o. tokens_with None d i (o ∷ os)) e
 
-  -- an identifier that is left out
+  -- An identifier without the ordinal of the declaration isn't listed.
   passed_over : (include : Bool) (x : Role × ℕ) (xs : List (Role × ℕ)) → same_ordinal (ordinal_in ordinals x.1) d ≡ false → tokens_listed ordinals include d (x ∷ xs) ≡ tokens_listed ordinals include d xs
   passed_over include x xs e =
       let kept = filter (is_listed ordinals include d) xs in
@@ -189,7 +189,7 @@ module _ (ordinals : List (Option ℕ)) (d : ℕ) where
       one true = λ i. x.1 ∷ later i
       one false = later
 
-  -- the declaration isn't among them
+  -- If no identifier declares d, the list is the same with and without the declaring one.
   none_declares : (k : ℕ) (xs : List (Role × ℕ)) → AreInOrder (ordinal_in ordinals) k xs → ((i : ℕ) → k + i ≡ d → slice_get (declaring_only xs) i ≡ None) → tokens_listed ordinals false d xs ≡ tokens_listed ordinals true d xs
   none_declares k [] h none = refl
   none_declares k ((role.LookedUp, x) ∷ xs) h none = same_but (role.LookedUp, x) xs refl (none_declares k xs h.1 none)
@@ -220,7 +220,8 @@ module _ (ordinals : List (Option ℕ)) (d : ℕ) where
   are_dropped : (i : ℕ) → Are i (drop i ordinals)
   are_dropped i = λ k. get_or-drop i ordinals k None
 
-  -- starting at the declaring one
+  -- The entries of the table from the declaring token onwards list all identifiers of the
+  -- declaration.
   from_declaring : (include : Bool) (k i low : ℕ) (xs : List (Role × ℕ)) (t : ℕ) → AreInOrder (ordinal_in ordinals) k xs → k + i ≡ d → slice_get (declaring_only xs) i ≡ Some t → Rising low (names_only xs) → Alone low (names_only xs)
       → tokens_from (omitted_token include (Some t)) d t ordinals ≡ tokens_listed ordinals include d xs
   from_declaring include k i low [] t h at is rise alone = absurd (some_none (sym is))

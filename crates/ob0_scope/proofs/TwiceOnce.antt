@@ -1,5 +1,5 @@
--- Faults of declarations are reported exactly if a name is declared twice or a closing name is
--- wrong.
+-- Proves that faults of declarations are reported exactly if a name is declared twice or a closing
+-- name is wrong.
 use Rattle.std.proofs.Common.{◌≡◌, ℕ, Bool, true, false, not, ◌&&◌, ◌||◌, List, [], ◌∷◌, ◌++◌, map, refl, sym, ap, ◌∙◌}
 use Rattle.std.proofs.lemmas.List.{map-append}
 use Rattle.std.proofs.lemmas.List.Folds.{list_any-append}
@@ -20,7 +20,7 @@ and_true : (b : Bool) → (b && true) ≡ b
 and_true true = refl
 and_true false = refl
 
--- true if the names are distinct, and distinct from some earlier ones
+-- true if the names are distinct, and distinct from the names of another list
 abbrev distinct_from : List Name → List Name → Bool
 distinct_from before [] = true
 distinct_from before (x ∷ xs) = not (is_among x before) && distinct_from (x ∷ before) xs
@@ -40,7 +40,7 @@ among_more false true false d = refl
 among_more false false true d = refl
 among_more false false false d = refl
 
--- one more earlier name
+-- Adding one earlier name excludes that name from the others.
 more_before : (x : Name) (xs before : List Name) → none_among xs (x ∷ before) ≡ (not (is_among x xs) && none_among xs before)
 more_before x [] before = refl
 more_before x (y ∷ ys) before =
@@ -100,12 +100,12 @@ again-fine source before (x ∷ xs) =
 names-fine : (source : Scanned) (xs : List ℕ) (ys : List Name) → map (text_at source) xs ≡ ys → fine (again source [] xs) ≡ are_distinct ys
 names-fine source xs ys e = again-fine source [] xs ∙ (ap (distinct_from []) e ∙ distinct_alone ys)
 
--- the numbers of a tree don't matter
+-- The numbers of a tree don't matter for its names.
 module _ (value : ℕ → ℕ) where
   abbrev named : {s : Sort} → Scanned → Tree ℕ s → Tree Name s
   named src t = mapped (text_at src) value t
 
-  -- names and parts of a tree, by their spellings
+  -- The spellings of the names of a tree over tokens are the names of the tree over names.
   names_texts : (src : Scanned) (ns : Tree ℕ names) → map (text_at src) (names_listed ns) ≡ names_listed (named src ns)
   names_texts src (listed x rest) = ap (λ l. text_at src x ∷ l) (further_texts rest)
     where
@@ -256,7 +256,7 @@ not_not false b e = ap not e
 pub twice_where : (m : Parsed) → list_any is_of_declarations (twice_in m) ≡ not (declared_once (named_tree_of m))
 twice_where m = not_not (list_any is_of_declarations (twice_in m)) (declared_once (named_tree_of m)) (module-fine (value_at m.source) m.source (tree_of m))
 
--- the test for duplicate declarations in a tree doesn't depend on its numbers
+-- The test for duplicate declarations in a tree doesn't depend on its numbers.
 pub once_with : (source : Scanned) (f g : ℕ → ℕ) (t : Tree ℕ module_text) → declared_once (mapped (text_at source) f t) ≡ declared_once (mapped (text_at source) g t)
 once_with source f g t = sym (module-fine f source t) ∙ module-fine g source t
 

@@ -1,4 +1,5 @@
--- A module without a body has the same labels as the module, because a body declares nothing.
+-- Proves that a module without a body has the same labels as the module, because a body declares
+-- nothing.
 use Rattle.std.proofs.Common.{◌≡◌, ℕ, zero, suc, [], ◌∷◌, Some, None, refl, sym, ap}
 use Rattle.ob0_tree.specs.Tree.{Tree, block, declares, declares_procedure, end, has_body, is_module, item, items, module_text, more, procedure}
 use Rattle.ob0_language_names.specs.Names.{Naming}
@@ -26,7 +27,7 @@ mutual
 name_without : {N : Type 0} (way : Way) (p : Tree N (item procedure)) → procedure_name (procedure_without way p) ≡ procedure_name p
 name_without way (declares_procedure x fs b closing) = refl
 
--- the names that a block's procedures add to a scope
+-- The procedures of a block add the same names to a scope without the body.
 names_without : {N : Type 0} (k : ℕ) (way : Way) (n : ℕ) (ps : Tree N (items procedure)) (scope : Scope N) → declare_procedure_names n (procedures_without k way ps) scope ≡ declare_procedure_names n ps scope
 names_without zero way n end scope = refl
 names_without (suc k) way n end scope = refl

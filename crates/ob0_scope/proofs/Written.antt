@@ -1,4 +1,5 @@
--- Writing a new name at the tokens that are bound to a declaration gives the renamed module.
+-- Proves that writing a new name at the tokens that are bound to a declaration gives the renamed
+-- module.
 use Rattle.std.proofs.Common.{◌≡◌, ℕ, ◌+◌, Bool, true, false, cond, ◌&&◌, ◌||◌, ◌==◌, if◌then◌else◌, List, [], ◌∷◌, Option, map, length, refl, sym, ap, ◌∙◌, subst, arith, eq-eqb, eqb-true}
 use Rattle.std.specs.List.{filter}
 use Rattle.ob0_scan.specs.declared.lexeme.Token.{Token}
@@ -19,7 +20,7 @@ use Rattle.ob0_scope.specs.NamesAtPlaces.{IsRenamedAt, is_among, tokens_bound}
 use Rattle.ob0_scope.proofs.Alike.{AllAlike, alike}
 use Rattle.ob0_scope.proofs.Placed.{bound_listed, is_listed, tokens_listed}
 
--- a selection of ascending tokens ascends, and a selection of identifiers has only identifiers
+-- A selection of ascending tokens ascends, and a selection of identifiers has only identifiers.
 
 kept_ascends : (test : Role × ℕ → Bool) (low : ℕ) (xs : List (Role × ℕ)) (high : ℕ) → Ascending low (names_only xs) high → Ascending low (names_only (filter test xs)) high
 kept_ascends test low [] high h = h
@@ -49,7 +50,7 @@ bound_are_identifiers r d include is =
     subst (AreIdentifiers m.source.tokens) (bound_listed r d include is)
     (kept_are_identifiers (is_listed r.ordinals include d) m.source.tokens (identifiers role.Declaring (tree_of m)) (leaves_are_identifiers m is.parsed))
 
--- an identifier is in the selection if it is bound to d
+-- An identifier is in the selection if it is bound to d.
 
 among_kept : (ordinals : List (Option ℕ)) (d i : ℕ) (xs : List (Role × ℕ)) → is_among i (tokens_listed ordinals true d xs) ≡ (same_ordinal (ordinal_in ordinals i) d && is_among i (names_only xs))
 among_kept ordinals d i [] = none (same_ordinal (ordinal_in ordinals i) d)
@@ -73,7 +74,7 @@ among_kept ordinals d i (x ∷ xs) =
         e ∙ ((λ j. here j && is_among i (names_only xs)) ∙ sym (ap (λ b. b && true) here))
     one false p false q e = e
 
--- states that all tokens of one list are in another
+-- holds if all tokens of one list are in another
 abbrev AllAmong : List ℕ → List ℕ → Type 0
 AllAmong all [] = Unit {0}
 AllAmong all (x ∷ xs) = (is_among x all ≡ true) × AllAmong all xs

@@ -1,5 +1,5 @@
--- The data carried over to a module in which the statements of one body were replaced: the data
--- about the tokens before that body, and about those after it, which have moved.
+-- Defines the data that is kept when the statements of one body are replaced: the data about the
+-- tokens before that body, and about the tokens after it, which have moved.
 -- Rule: none; for private contracts: what is known of a module's names, carried over.
 use Rattle.std.specs.Prelude.{◌≡◌, ℕ, ◌+◌, ◌-◌, ◌^◌, min, nat_lt, List, [], ◌∷◌, ◌++◌, Option, Some, None, if◌then◌else◌, is_some, length, take, drop, replicate}
 use Rattle.ob0_scan.specs.declared.tokens.SameTokens.{SameTokens}
@@ -18,19 +18,19 @@ pub record NamesInBody : Type 0 where
   pub first : Option ℕ
   pub uses : List ℕ
 
--- the state before the first identifier
+-- the state of a walk before the first identifier
 abbrev pub no_names : NamesInBody
 no_names = record { first = None; uses = [] }
 
--- the first identifier if there is one, otherwise this one
+-- returns the first identifier if there is one, otherwise this one
 abbrev pub first_or : Option ℕ → ℕ → Option ℕ
 first_or first i = if is_some first then first else Some i
 
--- adds an occurrence
+-- adds an occurrence to the names of a body
 abbrev pub with_use : ℕ → NamesInBody → NamesInBody
 with_use i names = record names { uses = names.uses ++ (i ∷ []) }
 
--- adds an identifier of a body
+-- adds an identifier, with its role, to the names of a body
 abbrev pub with_name : Role → ℕ → NamesInBody → NamesInBody
 with_name role.LookedUp i names =
     record { first = first_or names.first i; uses = names.uses ++ (i ∷ []) }
@@ -39,42 +39,42 @@ with_name role.ClosingName i names = record names { first = first_or names.first
 with_name role.FieldName i names = record names { first = first_or names.first i }
 with_name role.ModuleName i names = record names { first = first_or names.first i }
 
--- the tokens before a body
+-- returns the tokens before a body
 abbrev pub before_body : BodyRange → List ℕ → List ℕ
 before_body range [] = []
 before_body range (i ∷ is) =
     if nat_lt i range.first then i ∷ before_body range is else before_body range is
 
--- the new index of a token after a body, at most the largest index
+-- returns the new index of a token after a body, at most the largest index
 abbrev pub shifted : BodyRange → ℕ → ℕ
 shifted range i = min (i - range.old_closing + range.closing) (2 ^ 64 - 1)
 
--- the tokens after a body, with their new indexes
+-- returns the tokens after a body, with their new indexes
 abbrev pub after_body : BodyRange → List ℕ → List ℕ
 after_body range [] = []
 after_body range (i ∷ is) =
     if nat_lt i range.old_closing then after_body range is
     else shifted range i ∷ after_body range is
 
--- the tokens of a module with the new body's own tokens in place of the old ones
+-- returns the tokens of a module with the new body's own tokens in place of the old ones
 abbrev pub carried : BodyRange → List ℕ → List ℕ → List ℕ
 carried range tokens own = before_body range tokens ++ (own ++ after_body range tokens)
 
--- the first entries of a table, and None for the tokens after these
+-- returns the first n entries of a table; missing entries are None
 abbrev pub padded : ℕ → List (Option ℕ) → List (Option ℕ)
 padded n table = take n table ++ replicate (n - length table) None
 
--- the ordinals of the tokens before a body and after it, and None in it
+-- returns a table with the ordinals of the tokens before a body and after it, and None in the body
 abbrev pub carried_table : BodyRange → List (Option ℕ) → List (Option ℕ)
 carried_table range table =
     padded range.closing (take range.first table) ++ drop range.old_closing table
 
--- the old index of the closing name of a body's block, at most the largest index
+-- returns the old index of the closing name of a body's block, at most the largest index
 abbrev pub old_place : SameTokens → ℕ → ℕ
 old_place same closing = min (closing - same.new_suffix + same.old_suffix) (2 ^ 64 - 1)
 
 -- States that these are the range and the occurrences of the statements that replaced others in a
--- module, with the bindings of the old module.
+-- module. b has the bindings of the old module.
 pub record IsNewBody (m : Parsed) (b : Bindings) (range : BodyRange) (own : List ℕ) : Type 0 where
   pub same : SameTokens
   pub was : WasBoundElsewhere m b same

@@ -1,4 +1,4 @@
--- The identifiers of a module in a table of ordinals.
+-- Defines the identifiers of a module that a table of ordinals binds to a declaration.
 -- Rule: none; for private contracts: identifiers by a table of ordinals.
 use Rattle.std.specs.Prelude.{ℕ, ◌+◌, ◌<◌, ◌≤◌, Bool, true, false, not, ◌&&◌, if◌then◌else◌, List, [], ◌∷◌, Option, Some, None, drop}
 use Rattle.ob0_scan.specs.declared.lexeme.Token.{Token}
@@ -14,18 +14,18 @@ is_identifier (kind.Reserved word) = false
 is_identifier (kind.Integer value) = false
 is_identifier (kind.Symbol symbol) = false
 
--- true for an identifier that has a place in it or at its end
+-- true for an identifier in which, or at whose end, the place `offset` is
 abbrev pub is_name_on : ℕ → Token → Bool
 is_name_on offset t = is_identifier t.kind && is_on offset t.span
 
--- states that each token has at least one byte, and begins at or after the end of the one before it
+-- holds if each token has at least one byte, and begins at or after the end of the one before it
 abbrev pub TokensAreApart : ℕ → List Token → Type 0
 TokensAreApart from [] = Unit {0}
 TokensAreApart from (t ∷ ts) =
     (from ≤ t.span.start) × ((t.span.start < t.span.end) × TokensAreApart t.span.end ts)
 
--- the indexes of the entries of a table with the ordinal d, except one index; the first entry has
--- the index i
+-- Returns the indexes of a table's entries with the ordinal d, except the omitted index. The first
+-- entry has the index i.
 abbrev pub tokens_with : Option ℕ → ℕ → ℕ → List (Option ℕ) → List ℕ
 tokens_with omitted d i [] = []
 tokens_with omitted d i (ordinal ∷ ordinals) =
@@ -33,15 +33,15 @@ tokens_with omitted d i (ordinal ∷ ordinals) =
     then i ∷ tokens_with omitted d (i + 1) ordinals
     else tokens_with omitted d (i + 1) ordinals
 
--- the same, starting at a token
+-- returns the tokens of a table with the ordinal d, starting at a token, except the omitted one
 abbrev pub tokens_from : Option ℕ → ℕ → ℕ → List (Option ℕ) → List ℕ
 tokens_from omitted d first ordinals = tokens_with omitted d first (drop first ordinals)
 
--- the token to leave out: the declaring one, unless it is requested
+-- returns the token to omit: the declaring one, unless `include` is true
 abbrev pub omitted_token : Bool → Option ℕ → Option ℕ
 omitted_token include declaring = if include then None else declaring
 
--- the first token that can refer to a declaration: none before the declaring one does
+-- returns the first token that can refer to a declaration; no token before the declaring one does
 abbrev pub first_token : Option ℕ → ℕ
 first_token None = 0
 first_token (Some token) = token

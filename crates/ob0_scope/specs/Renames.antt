@@ -1,4 +1,4 @@
--- A renamed declaration: the resulting bindings of occurrences, and conflicts with other
+-- Defines the bindings of occurrences after a declaration is renamed, and conflicts with other
 -- declarations.
 -- Rule: docs/PROTOCOL.md, Refusals of edits (Duplicate, Captures).
 use Rattle.std.specs.Prelude.{◌≡◌, ℕ, Bool, true, false, not, ◌&&◌, if◌then◌else◌, ◌==◌, List, [], ◌∷◌, Option, Some, None}
@@ -16,29 +16,30 @@ use Rattle.ob0_scope_table.specs.Resolution.{Resolution, ordinal_in}
 use Rattle.ob0_language_names.specs.Scopes.{Scope, as_label, numbered, predeclared_count, renamed}
 use Rattle.ob0_scope_numbering.specs.Written.{Writing, name_at}
 
--- the newest of these declarations that has the name and isn't d
+-- returns the newest of these declarations that has the name and isn't d
 abbrev pub other_named : Scope Name → ℕ → Name → Option ℕ
 other_named [] d new = None
 other_named (b ∷ own) d new =
     if same_name b.0 new && not (b.1 == d) then Some b.1 else other_named own d new
 
--- another declaration with the name in the block that declares d
+-- returns another declaration with the name in the block that declares d; None if there is none
 abbrev pub namesake_in : List (Scope Name) → ℕ → Name → Option ℕ
 namesake_in [] d new = None
 namesake_in (own ∷ others) d new =
     option_or (if declares_ordinal own d then other_named own d new else None)
     (namesake_in others d new)
 
--- the declaration of d's block, other than d, that has the name; if there are several, the last one
+-- returns the declaration of d's block, other than d, that has the name; if there are several, the
+-- last one
 abbrev pub namesake : Tree Name module_text → ℕ → Name → Option ℕ
 namesake m d new = namesake_in (blocks_in predeclared_count [] (module_block m)) d new
 
--- the place of a capture
+-- returns the place of a capture
 abbrev pub place_of : reported.FirstCapture → Capture
 place_of (reports.Duplicate other) = at_declaration
 place_of (reports.Occurrence k) = at_occurrence k
 
--- the other declaration, if a capture is a duplicate declaration in the block
+-- returns the other declaration, if a capture is a duplicate declaration in the block
 abbrev pub other_of : Option reported.FirstCapture → Option ℕ
 other_of None = None
 other_of (Some (reports.Duplicate other)) = Some other
@@ -51,17 +52,16 @@ is_bound_alike None (Some k) = false
 is_bound_alike (Some j) None = false
 is_bound_alike (Some j) (Some k) = j == k
 
--- a resolved text in which one declaration has a new name
+-- returns a resolved text in which one declaration has a new name
 abbrev pub renamed_in : Resolution → ℕ → Name → Writing
 renamed_in r d new =
     record { source = r.module_read.source; ordinals = r.ordinals; declaration = Some d; new = new }
 
--- states that no token of a text has this name as its spelling
+-- holds if no token of a text has this name as its spelling
 abbrev pub IsNowhere : Scanned → Name → Type 0
 IsNowhere source x = (i : ℕ) → same_name (text_at source i) x ≡ false
 
--- States that the table of ordinals gives the numbered tree of the module in which d has the new
--- name.
+-- Holds if the table of ordinals gives the numbered tree of the module in which d has the new name.
 abbrev pub IsRenumbering : Resolution → ℕ → Name → List (Option ℕ) → Type 0
 IsRenumbering r d new ordinals =
     numbered (renamed (named_tree_of r.module_read) d new)

@@ -1,5 +1,5 @@
--- The bindings of a text whose tokens have the same kinds as before and whose identifiers have the
--- same spellings: they are unchanged.
+-- States that bindings don't change if the tokens of a text keep their kinds and its identifiers
+-- keep their spellings.
 -- Rule: docs/LANGUAGE.md, Scopes 2 to 4.
 use Rattle.std.specs.Prelude.{◌≡◌, []}
 use Rattle.ob0_scan.specs.Reused.{kinds, names_in}
@@ -17,7 +17,7 @@ pub record AreNamedAlike (old new : Scanned) : Type 0 where
   pub same_kinds : kinds new.tokens ≡ kinds old.tokens
   pub same_names : names_in new.text new.tokens ≡ names_in old.text old.tokens
 
--- states that the bindings of a valid module are the same for its tree over tokens that are named
+-- states that the bindings of a valid module don't change if its tree is over tokens that are named
 -- alike
 abbrev pub BindingsStay : Type 0
 BindingsStay =
@@ -28,15 +28,15 @@ BindingsStay =
     → b.faults.items ≡ []
     → IsResolution (resolution_by (parsed_by new tree) b)
 
--- the same bindings, with the faults at the same tokens of another text
+-- states that two bindings are equal, except that their faults are at the same tokens of two texts
 pub record AreMoved (old new : Scanned) (b c : Bindings) : Type 0 where
   pub ordinals : c.ordinals.items ≡ b.ordinals.items
   pub declarations : c.declarations.items ≡ b.declarations.items
   pub occurrences : c.occurrences.items ≡ b.occurrences.items
   pub faults : c.faults.items ≡ moved_faults old new b.faults.items
 
--- states that the bindings of a module are the same for its tree over tokens with the same
--- spellings, with the faults at the same tokens
+-- States that the bindings of a module don't change if its tree is over tokens with the same
+-- spellings. The faults are at the same tokens.
 abbrev pub BindingsKeepTokens : Type 0
 BindingsKeepTokens =
     (old new : Scanned) (tree : ModuleTree) (b c : Bindings)

@@ -1,9 +1,9 @@
 //! Finds conflicts of a new name for a declaration.
 //!
-//! A name that no token of the text has is free, so no walk is needed. Otherwise another
-//! declaration with that name in the same block is searched for, among the tokens of the blocks.
-//! Then the first occurrence is searched for whose ordinal changes if the new name is used. Each
-//! name is examined once; the second walk takes O(n log n).
+//! If no token of the text has the new name, the name is free and no walk is needed. Otherwise
+//! another declaration with that name in the same block is searched for, among the tokens of the
+//! blocks. Then the first occurrence is searched for whose ordinal changes if the new name is used.
+//! Each name is examined once. The second walk takes O(n log n).
 
 ghost use Rattle.std.specs.Prelude.{◌≡◌, ◌↔◌, IfOk, None, not, option_map, true};
 ghost use Rattle.std.specs.List.{position_from};
@@ -59,7 +59,7 @@ pub fn captures(
     }
 }
 
-/// If true, the name is new: it is the spelling of no token.
+/// Returns true only if no token is spelled like the name. An empty name gives false.
 fn is_nowhere(tokens: &Tokens, name: &str) -> bool
     ensures { result ≡ true → IsNowhere tokens.now name.now }
 {
@@ -74,7 +74,7 @@ fn is_nowhere(tokens: &Tokens, name: &str) -> bool
     true
 }
 
-/// Returns the first occurrence that would be bound to another declaration.
+/// Returns the first occurrence that would be bound to another declaration. None if there is none.
 fn first_capture(
     alloc: Global,
     names: &Resolved,
@@ -93,7 +93,8 @@ fn first_capture(
     }
 }
 
-/// Returns the number of the first occurrence to which a table gives another ordinal.
+/// Returns the number of the first occurrence to which a table gives another ordinal. None if there
+/// is none.
 fn first_changed(names: &Resolved, ordinals: &[OrdinalEntry]) -> Option<usize>
     ensures { result
         ≡ position_from (λ token. not
@@ -118,8 +119,8 @@ fn is_bound_alike(a: Option<usize>, b: Option<usize>) -> bool
     }
 }
 
-/// Returns another declaration with this name in the block of a declaration; if there are several,
-/// the last one.
+/// Returns another declaration with this name in the block of a declaration, or the last one if
+/// there are several. None if there is none.
 fn namesake(
     alloc: Global,
     names: &Resolved,
@@ -138,7 +139,8 @@ fn namesake(
     sought.block(alloc, Vec::new(alloc), names.module().block())
 }
 
-/// A name, and the declaration whose block is searched.
+/// The search for another declaration with a name: the text, the declaration whose block is
+/// searched, and the name.
 #[derive(Drop)]
 struct Sought<'t> {
     tokens: &'t Tokens,
@@ -170,15 +172,15 @@ impl<'t> Sought<'t> {
         }
     }
 
-    /// True if a token has the name and isn't the declaration itself.
+    /// Returns true if a token has the name and isn't bound to the declaration itself.
     fn is_other(&self, token: usize) -> bool
         ensures { result ≡ is_other self.now token }
     {
         text_at(self.tokens, token) == self.new && !self.is_sought(token)
     }
 
-    /// If the declaration is among these tokens of a block, returns the last other declaration that
-    /// has the name.
+    /// Returns the last other declaration that has the name, if the declaration is among these
+    /// tokens of a block. Otherwise None.
     fn among(&self, tokens: &[usize]) -> Option<usize>
         ensures { result ≡ other_among self.now tokens.now }
     {
@@ -193,7 +195,8 @@ impl<'t> Sought<'t> {
         if is_here { found } else { None }
     }
 
-    /// Searches a block. `own` has the tokens of the parameters that are declared in it.
+    /// Searches a block and the blocks inside it. `own` has the tokens of the parameters that are
+    /// declared in the block.
     #[cycle(blocks)]
     fn block(&self, alloc: Global, own: Vec<usize>, b: &Block) -> Result<Option<usize>, AllocError>
         ensures { IfOk result

@@ -1,5 +1,4 @@
-//! Carries the bindings of a module over to a version in which the statements of one body were
-//! replaced.
+//! Keeps the bindings of a module for a version in which the statements of one body were replaced.
 
 ghost use Rattle.std.specs.Prelude.{◌≡◌, ◌++◌, ◌∷◌, [], IfOk, OnOk};
 ghost use Rattle.ob0_tree.specs.View.{block_of, body_of, procedure_of};
@@ -13,9 +12,9 @@ use ob0_tree::{Block, Procedure, Role, Statement};
 use std::alloc::{AllocError, Global};
 use std::marker::Model;
 
-/// The range of a body's statements: from the token of their first identifier up to the closing
-/// name of their block. `old_closing` is the token of the closing name before the statements were
-/// replaced.
+/// The range of a body's statements in tokens: from their first identifier up to, but not
+/// including, the closing name of their block. `old_closing` is the token of the closing name
+/// before the statements were replaced.
 #[derive(Clone, Copy)]
 pub(crate) struct BodyRange {
     pub(crate) first: usize,
@@ -23,14 +22,14 @@ pub(crate) struct BodyRange {
     pub(crate) closing: usize,
 }
 
-/// The statements of a block, with the block's closing name.
+/// The statements of a block, with the token of the block's closing name.
 #[derive(Clone, Copy)]
 pub(crate) struct ReplacedBody<'t> {
     pub(crate) statements: &'t Option<Vec<Statement>>,
     pub(crate) closing: usize,
 }
 
-/// The first identifier of a body, if one has been seen, and its occurrences so far.
+/// The first identifier of a body, if one has been seen, and the body's occurrences so far.
 #[derive(Drop)]
 pub(crate) struct BodyNames {
     pub(crate) first: Option<usize>,
@@ -103,7 +102,7 @@ fn body_inside<'t>(p: &'t Procedure, low: usize) -> ReplacedBody<'t>
     body_in(&p.block, p.closing, low)
 }
 
-/// Returns the old index of the closing name of a body's block, at most the largest index.
+/// Returns the index that the closing name of a body's block had before, at most the largest index.
 pub(crate) fn old_place(same: SameTokens, closing: usize) -> usize
     ensures { result ≡ old_place same closing }
 {

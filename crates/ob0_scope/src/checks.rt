@@ -1,8 +1,8 @@
-//! Checks for duplicate declarations and wrong closing names.
+//! Reports duplicate declarations and wrong closing names.
 //!
-//! In clauses `Checks` is the list of the faults found so far; each check appends its own. Up to 16
-//! names of a block or record are compared with one another; if there are more, they are put into a
-//! set.
+//! In clauses, `Checks` is the list of the faults found so far, to which each check appends its
+//! own. Up to 16 names of a block or record are compared with one another. If there are more, they
+//! are inserted into a set.
 
 ghost use Rattle.std.specs.Prelude.{◌≡◌, ◌++◌, [], IfOk, OnOk, map, not};
 ghost use Rattle.std.specs.List.{list_any};
@@ -25,10 +25,10 @@ use std::alloc::{AllocError, Global};
 use std::collections::BTreeSet;
 use std::marker::Model;
 
-/// The greatest number of names that are compared with one another, without a set.
+/// The greatest number of names that are compared with one another instead of using a set.
 const FEW: usize = 16;
 
-/// The faults of declarations so far.
+/// The faults of declarations that were found so far.
 #[derive(Drop)]
 struct Checks {
     alloc: Global,
@@ -57,8 +57,8 @@ pub(crate) fn check<'t>(alloc: Global, read: &'t Module<'t>) -> Result<Vec<Fault
     Ok(checks.into_faults())
 }
 
-/// Returns the duplicate declarations and wrong closing names of a module. `known` has faults of
-/// these kinds exactly if the module does.
+/// Returns the duplicate declarations and wrong closing names of a module. `known` must contain a
+/// fault of these kinds exactly if the module has one.
 pub(crate) fn check_again<'t>(
     alloc: Global,
     read: &'t Module<'t>,
@@ -74,7 +74,7 @@ pub(crate) fn check_again<'t>(
     Ok(Vec::new(alloc))
 }
 
-/// True if one of the faults is about a declaration or a closing name.
+/// Returns true if one of the faults is a duplicate declaration or a wrong closing name.
 fn has_of_declarations(faults: &[Fault]) -> bool
     ensures { result ≡ list_any is_of_declarations faults.now }
 {
@@ -92,14 +92,14 @@ fn is_of_declarations(fault: &Fault) -> bool
     fault.code == Code::Duplicate || fault.code == Code::EndName
 }
 
-/// True if two identifiers have the same spelling.
+/// Returns true if two identifiers have the same spelling.
 fn is_same(tokens: &Tokens, a: usize, b: usize) -> bool
     ensures { result ≡ same_name (text_at tokens.now a) (text_at tokens.now b) }
 {
     text_at(tokens, a) == text_at(tokens, b)
 }
 
-/// Returns the fault of a duplicate declaration.
+/// Returns the fault that a name is declared twice.
 fn duplicate_at(tokens: &Tokens, name: usize) -> Fault
     ensures { result ≡ duplicate_at tokens.now name }
 {
@@ -109,7 +109,7 @@ fn duplicate_at(tokens: &Tokens, name: usize) -> Fault
     }
 }
 
-/// True if one of some identifiers has this spelling.
+/// Returns true if one of these identifiers has this spelling.
 fn is_written(tokens: &Tokens, names: &[usize], text: &str) -> bool
     ensures { result ≡ is_among text.now (map (text_at tokens.now) names.now) }
 {
@@ -220,7 +220,7 @@ impl Checks {
         faults
     }
 
-    /// Reports a fault if a condition doesn't hold.
+    /// Reports the fault if the condition doesn't hold.
     fn expect(&mut self, holds: bool, fault: Fault) -> Result<(), AllocError>
         ensures { OnOk result (self.new ≡ self.old ++ unless holds fault) }
     {
@@ -230,7 +230,7 @@ impl Checks {
         Ok(())
     }
 
-    /// Checks that a closing name is the name of its module or procedure.
+    /// Reports a closing name that isn't the name of its module or procedure.
     fn closing(&mut self, tokens: &Tokens, name: usize, closing: usize) -> Result<(), AllocError>
         ensures { OnOk result (self.new ≡ self.old ++ closing_other tokens.now name closing) }
     {
@@ -241,7 +241,7 @@ impl Checks {
         self.expect(is_same(tokens, name, closing), fault)
     }
 
-    /// Checks that the names are distinct.
+    /// Reports each name that equals an earlier one.
     fn distinct(&mut self, tokens: &Tokens, names: &[usize]) -> Result<(), AllocError>
         ensures { OnOk result (self.new ≡ self.old ++ again tokens.now [] names.now) }
     {
@@ -252,7 +252,8 @@ impl Checks {
         }
     }
 
-    /// Checks that a few names are distinct: each is compared with all before it.
+    /// Reports each name that equals an earlier one. Each name is compared with all names before
+    /// it, so there should be few.
     fn distinct_few(&mut self, tokens: &Tokens, names: &[usize]) -> Result<(), AllocError>
         ensures { OnOk result (self.new ≡ self.old ++ again tokens.now [] names.now) }
     {
@@ -263,7 +264,8 @@ impl Checks {
         Ok(())
     }
 
-    /// Checks that many names are distinct: each is looked up in the set of the names before it.
+    /// Reports each name that equals an earlier one. Each name is looked up in the set of the names
+    /// before it.
     fn distinct_many(&mut self, tokens: &Tokens, names: &[usize]) -> Result<(), AllocError>
         ensures { OnOk result (self.new ≡ self.old ++ again tokens.now [] names.now) }
     {
@@ -368,7 +370,8 @@ impl Checks {
         self.block(tokens, own, &p.block)
     }
 
-    /// Checks a block. `own` has the names of the parameters that are declared in it.
+    /// Checks a block and the blocks inside it. `own` has the tokens of the parameters that are
+    /// declared in the block.
     #[cycle(blocks)]
     fn block(&mut self, tokens: &Tokens, own: Vec<usize>, b: &Block) -> Result<(), AllocError>
         ensures { OnOk result

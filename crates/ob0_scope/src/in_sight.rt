@@ -1,4 +1,4 @@
-//! Finds the declarations to which a different name would be bound at the occurrences of a module.
+//! Finds the declarations to which another name would be bound at the occurrences of a module.
 
 ghost use Rattle.std.specs.Prelude.{◌≡◌, IfOk, map, length, replicate, None};
 ghost use Rattle.ob0_tree.specs.Parsed.{named_tree_of};
@@ -26,7 +26,7 @@ pub fn ordinals_seen(
     ordinals_of(alloc, &ordinals, names.occurrences())
 }
 
-/// Returns the ordinal of each identifier, by its token, if `name` replaces each occurrence.
+/// Returns the ordinal of each identifier by its token, if `name` replaces each occurrence.
 fn ordinals_in_place(
     alloc: Global,
     names: &Resolved,
@@ -47,7 +47,7 @@ fn ordinals_in_place(
     Ok(ordinals)
 }
 
-/// Returns a table that has 0 at each occurrence and nothing at any other token.
+/// Returns a table that has ordinal 0 at each occurrence and None at every other token.
 fn occurrence_marks(alloc: Global, names: &Resolved) -> Result<Vec<OrdinalEntry>, AllocError>
     ensures { IfOk result (λ t. t.items
         ≡ with_marks (replicate (length names.now.module_read.source.tokens) None)

@@ -23,9 +23,9 @@ pub struct Named {
     pub ordinal: usize,
 }
 
-/// Returns the name at a place, which is in the name or at its end. The name may be predeclared. A
-/// closing name of a procedure counts as the procedure's name. Returns None at a field, at the
-/// module's name and at an unbound name.
+/// Returns the name at a place (a byte offset), which is in the name or at its end. The name may be
+/// predeclared. A closing name of a procedure counts as the procedure's name. None at a field, at
+/// the module's name and at an unbound name.
 pub fn name_at(names: &Resolved, offset: usize) -> Option<Named>
     ensures { result ≡ name_on names.now.module_read offset }
 {
@@ -64,14 +64,14 @@ pub fn tokens_bound(
     )
 }
 
-/// Returns the token to leave out: the declaring one, unless it is requested.
+/// Returns the token to omit: the declaring one, unless `include` is true.
 fn omitted_token(include: bool, declaring: Option<usize>) -> Option<usize>
     ensures { result ≡ omitted_token include declaring }
 {
     if include { None } else { declaring }
 }
 
-/// Returns the first token that can refer to a declaration: none before the declaring one does.
+/// Returns the first token that can refer to a declaration. No token before the declaring one does.
 fn first_token(declaring: Option<usize>) -> usize
     ensures { result ≡ first_token declaring }
 {
@@ -81,8 +81,8 @@ fn first_token(declaring: Option<usize>) -> usize
     }
 }
 
-/// Returns the tokens, starting at `first`, that a table binds to a declaration, except one that is
-/// left out.
+/// Returns the tokens, starting at `first`, that a table binds to a declaration. The omitted token
+/// isn't among them.
 fn tokens_from(
     alloc: Global,
     ordinals: &[OrdinalEntry],
@@ -123,8 +123,8 @@ pub fn renamed_tokens(
     tokens_bound(alloc, names, declaration, true)
 }
 
-/// Returns the index of the first identifier at a place. It is found by binary search: it is the
-/// first token that doesn't end before the place, or the next one.
+/// Returns the index of the first identifier at a place, found by binary search. It is the first
+/// token that doesn't end before the place, or the token after that. None if neither is one.
 fn first_on(tokens: &[Token], offset: usize) -> Option<usize>
     ensures { TokensAreApart 0 tokens.now
         → result ≡ position_from (is_name_on offset) 0 tokens.now }
@@ -146,7 +146,7 @@ fn first_on(tokens: &[Token], offset: usize) -> Option<usize>
     None
 }
 
-/// Returns the number of tokens that end before a place.
+/// Returns the number of tokens that end before a place, found by binary search.
 fn ended_before(tokens: &[Token], offset: usize) -> usize
     ensures bound { result ≤ length tokens.now }
     ensures point { IsNonDecreasingBy (λ (t : token.Token). t.span.end) tokens.now

@@ -19,8 +19,8 @@ use ob0_tree::Module;
 use ob0_tree::walk::body;
 use std::alloc::{AllocError, Global};
 
-/// Returns the bindings of a module, from its bindings before the tokens from `low` up to, but not
-/// including, `high` changed. They are in one body. Only that body is numbered again.
+/// Returns the bindings of a module after tokens of one body changed: from `low` up to, but not
+/// including, `high`. `old` has the bindings before. Only that body is numbered again.
 pub fn rebind_body(
     alloc: Global,
     read: &Module<'_>,
@@ -52,8 +52,8 @@ pub fn rebind_body(
     })
 }
 
-/// Returns the bindings of a module, from its bindings before the statements of one body were
-/// replaced. Only that body is numbered again; everything else is carried over.
+/// Returns the bindings of a module after the statements of one body were replaced. `old` has the
+/// bindings before. Only that body is numbered again; everything else is kept.
 pub fn rebind_new_body(
     alloc: Global,
     read: &Module<'_>,
@@ -80,8 +80,8 @@ pub fn rebind_new_body(
     carry_bindings(alloc, read, &old, range, &names.uses)
 }
 
-/// Returns the bindings of a module, from its bindings before the statements in a range of tokens
-/// were replaced.
+/// Returns the bindings of a module after the statements in a range of tokens were replaced. `old`
+/// has the bindings before, and `own` the occurrences in the new statements.
 fn carry_bindings(
     alloc: Global,
     read: &Module<'_>,

@@ -1,5 +1,4 @@
--- The loops of the walk to one body: declarations that are counted, and procedures that are
--- skipped.
+-- Proves the loops of the walk to one body: counting declarations, and skipping procedures.
 use Rattle.std.proofs.Common.{◌≡◌, ◌<◌, ◌≤◌, ℕ, ◌+◌, if◌then◌else◌, List, [], ◌∷◌, ◌++◌, length, drop, get_or, sym, ap, ◌∙◌, append_assoc, append-nil}
 use Rattle.std.proofs.lemmas.List.{drop_all, drop_more}
 use Rattle.ob0_tree.specs.Tree.{Tree, body, declares_procedure, item, maybe, more, procedure}
@@ -38,7 +37,7 @@ caught_all all token start k now w past =
 abbrev parts_of : Procedure → Tree ℕ (item procedure)
 parts_of q = declares_procedure (out-Procedure q).name (formals_of (out-Procedure q).formals) (block_of (out-Procedure q).block) (out-Procedure q).closing
 
--- procedures that are still to be skipped, up to the one with the body
+-- the walk through the remaining procedures, up to the one with the body
 module _ (all : List ℕ) (low : ℕ) (statements : Tree ℕ (maybe body)) where
   abbrev pub going : List Procedure → Visit → Visit
   going xs v = renumber_procedures put all low (items_of procedure_of xs) statements v

@@ -1,5 +1,5 @@
--- If a table agrees with the bindings of a part's names, numbering the part gives the part with the
--- table's ordinals, whatever its numbers.
+-- Proves that if a table agrees with the bindings of a part's names, numbering the part gives the
+-- part with the table's ordinals. The part's numbers don't matter.
 use Rattle.std.proofs.Common.{◌≡◌, ℕ, Option, None, List, [], ◌∷◌, ◌++◌, refl, sym}
 use Rattle.ob0_tree.specs.declared.tree.Role.{Role}
 use Rattle.ob0_tree.specs.declared.tree.Role.TheVariants as role
@@ -9,7 +9,7 @@ use Rattle.ob0_language_names.specs.Names.{Name, as_names}
 use Rattle.ob0_language_names.specs.Scopes.{Labels, Scope, ordinal_of, relabel_uses}
 use Rattle.ob0_language_names.proofs.Peeling.{Two}
 
--- states that the table's entry for an identifier is right, in a part that declares nothing
+-- holds if the table's entry for an identifier is right, in a part that declares nothing
 abbrev pub Fits : (ℕ → Option ℕ) → Writing → Scope Name → Role → ℕ → Type 0
 Fits table src scope role.LookedUp i = table i ≡ ordinal_of as_names scope (name_at src i)
 Fits table src scope role.Declaring i = table i ≡ None

@@ -1,6 +1,6 @@
--- Two walks through a part, with two spellings of the names. If the spellings agree at all
--- declarations, the same names are visible at each place and the next ordinals are the same. The
--- marks are the same wherever the names are.
+-- Proves facts about two walks through a part, with two spellings of the names. If the spellings
+-- agree at all declarations, the same names are visible at each place and the next ordinals are the
+-- same. The marks agree wherever the spellings do.
 use Rattle.std.proofs.Common.{◌≡◌, ℕ, zero, suc, ◌+◌, ◌-◌, Bool, true, Option, Some, None, List, [], ◌∷◌, ◌++◌, map, length, drop, refl, sym, ap, ◌∙◌, subst, append_assoc, append-nil}
 use Rattle.ob0_tree.specs.declared.tree.Role.{Role}
 use Rattle.ob0_tree.specs.declared.tree.Role.TheVariants as role
@@ -13,7 +13,7 @@ use Rattle.ob0_scope_numbering.specs.Marking.{Visit, after_heading, found, found
 use Rattle.ob0_scope_numbering.specs.Marks.{OrdinalMark}
 use Rattle.ob0_scope_numbering.specs.Written.{Writing, name_at}
 
--- states that all of some tokens pass a test
+-- holds if all of some tokens pass a test
 abbrev pub AllOut : (ℕ → Bool) → List ℕ → Type 0
 AllOut out [] = Unit {0}
 AllOut out (i ∷ is) = (out i ≡ true) × AllOut out is
@@ -26,7 +26,7 @@ pub out_split : (out : ℕ → Bool) (xs ys : List ℕ) → AllOut out (xs ++ ys
 out_split out [] ys h = (tt, h)
 out_split out (x ∷ xs) ys h = let rest = out_split out xs ys h.1 in ((h.0, rest.0), rest.1)
 
--- the identifiers of two parts, one after the other
+-- If all tokens of two parts together pass a test, the tokens of each part do.
 pub out_parts : (out : ℕ → Bool) (xs ys : List (Role × ℕ)) → AllOut out (names_only (xs ++ ys)) → AllOut out (names_only xs) × AllOut out (names_only ys)
 out_parts out [] ys h = (tt, h)
 out_parts out (x ∷ xs) ys h = let rest = out_parts out xs ys h.1 in ((h.0, rest.0), rest.1)
@@ -36,8 +36,8 @@ out_later out zero xs h = h
 out_later out (suc n) [] h = h
 out_later out (suc n) (x ∷ xs) h = out_later out n xs h.1
 
--- states that the marks of two walks are at the same tokens, and have the same ordinals if the
--- tokens pass a test
+-- holds if the marks of two walks are at the same tokens, and have the same ordinals if the tokens
+-- pass a test
 abbrev pub Alike : (ℕ → Bool) → List OrdinalMark → List OrdinalMark → Type 0
 Alike out [] [] = Unit {0}
 Alike out [] (n ∷ ns) = ⊥
@@ -60,7 +60,7 @@ module _ (out : ℕ → Bool) (a b : Writing) (same_name : (i : ℕ) → out i �
     pub declarations : x.declarations ≡ y.declarations
     pub outside : AllOut out x.declarations
 
-  -- the marks that two walks add
+  -- states that the marks that two walks add are alike
   pub record Adds (x y x' y' : Visit) : Type 0 where
     pub firsts : List OrdinalMark
     pub seconds : List OrdinalMark
@@ -68,7 +68,7 @@ module _ (out : ℕ → Bool) (a b : Writing) (same_name : (i : ℕ) → out i �
     pub second_is : y'.marks ≡ y.marks ++ seconds
     pub alike : Alike out firsts seconds
 
-  -- two walks through the same part
+  -- states that two walks through the same part end at the same place and add marks that are alike
   pub record Goes (x y x' y' : Visit) : Type 0 where
     pub at : Beside x' y'
     pub adds : Adds x y x' y'
@@ -102,7 +102,7 @@ module _ (out : ℕ → Bool) (a b : Writing) (same_name : (i : ℕ) → out i �
 
   -- ---- parts that declare nothing
 
-  -- states that the same names are visible
+  -- states that two walks see the same names
   pub record Sees (x y : Visit) : Type 0 where
     pub first : x.writing ≡ a
     pub second : y.writing ≡ b
@@ -120,7 +120,7 @@ module _ (out : ℕ → Bool) (a b : Writing) (same_name : (i : ℕ) → out i �
   found_adds role.FieldName i x y at = adds_one x y (found role.FieldName i x) (found role.FieldName i y) i None None refl refl (λ e. refl)
   found_adds role.ModuleName i x y at = adds_one x y (found role.ModuleName i x) (found role.ModuleName i y) i None None refl refl (λ e. refl)
 
-  -- states that the visible names and the declarations are unchanged
+  -- states that a step changes neither the visible names nor the declarations
   pub record Keeps (x x' : Visit) : Type 0 where
     pub writing : x'.writing ≡ x.writing
     pub scope : x'.scope ≡ x.scope
@@ -191,7 +191,7 @@ module _ (out : ℕ → Bool) (a b : Writing) (same_name : (i : ℕ) → out i �
   names_same [] o = refl
   names_same (i ∷ is) o = λ j. same_name i o.0 j ∷ names_same is o.1 j
 
-  -- makes the declarations visible, starting at one of them
+  -- Making the declarations visible, starting at one of them, keeps two walks at the same place.
   shown_goes : (n m : ℕ) (x y : Visit) → n ≡ m → Beside x y → Beside (visible_from n x) (visible_from m y)
   shown_goes n m x y e at =
       let later = out_later out n x.declarations at.outside in
@@ -276,7 +276,7 @@ module _ (out : ℕ → Bool) (a b : Writing) (same_name : (i : ℕ) → out i �
 
   -- ---- blocks
 
-  -- the sections of a block
+  -- Two walks through the sections of a block end at the same place.
   pub declared_goes : (cs : Tree ℕ (maybe constants)) (ts : Tree ℕ (maybe type_names)) (vs : Tree ℕ (maybe variables)) (x y : Visit) → AllOut out (leaves cs) → AllOut out (leaves ts) → AllOut out (leaves vs) → Beside x y
       → Goes x y (visit_variable_section vs (visit_type_section ts (visit_constant_section cs x))) (visit_variable_section vs (visit_type_section ts (visit_constant_section cs y)))
   declared_goes cs ts vs x y c t v at =
@@ -288,7 +288,7 @@ module _ (out : ℕ → Bool) (a b : Writing) (same_name : (i : ℕ) → out i �
   left_goes : (n m : ℕ) (x y : Visit) → n ≡ m → Beside x y → Beside (left_to n x) (left_to m y)
   left_goes n m x y e at = record { first = at.first; second = at.second; scope = λ j. drop (length (at.scope j) - e j) (at.scope j); declarations = at.declarations; outside = at.outside }
 
-  -- a procedure's name and its parameters
+  -- Two walks through a procedure's name and parameters end at the same place.
   pub heading_goes : (n : ℕ) (fs : Tree ℕ (maybe formals)) (x y : Visit) → out n ≡ true → AllOut out (leaves fs) → Beside x y
       → Goes x y (after_heading (length x.declarations) (length x.scope) (visit_formals fs (numbered_at n x))) (after_heading (length y.declarations) (length y.scope) (visit_formals fs (numbered_at n y)))
   heading_goes n fs x y o f at =
@@ -300,7 +300,8 @@ module _ (out : ℕ → Bool) (a b : Writing) (same_name : (i : ℕ) → out i �
       let kept : Goes x y (left_to (length x.scope) x₁) (left_to (length y.scope) y₁) = record { at = left; adds = record { firsts = q.adds.firsts; seconds = q.adds.seconds; first_is = q.adds.first_is; second_is = q.adds.second_is; alike = q.adds.alike } } in
       then_shown (length x.declarations) (length y.declarations) (ap length at.declarations) kept
 
-  -- after a procedure's block: its name, visible again, and its closing name
+  -- Two walks over the end of a procedure's block end at the same place. Its name is visible again,
+  -- and its closing name is marked.
   pub ending_goes : (n closing k l outer out_too : ℕ) (x y : Visit) → out n ≡ true → k ≡ l → outer ≡ out_too → Beside x y
       → Goes x y (marked closing (Some k) (leave_block n k outer x)) (marked closing (Some l) (leave_block n l out_too y))
   ending_goes n closing k l outer out_too x y o e f at =

@@ -1,5 +1,5 @@
--- The walk to one body makes the same marks there as the complete walk. So a table that had the
--- marks of the text before has all marks afterwards.
+-- Proves that the walk to one body makes the same marks there as the complete walk. So a table that
+-- had the marks of the text before has all marks afterwards.
 use Rattle.std.proofs.Common.{◌≡◌, ◌<◌, ◌≤◌, ℕ, ◌+◌, Bool, true, false, ◌&&◌, nat_le, nat_lt, if◌then◌else◌, Option, Some, None, List, [], ◌∷◌, ◌++◌, length, drop, refl, sym, ap, ◌∙◌, subst, arith, append_assoc, append-nil}
 use Rattle.std.proofs.lemmas.Bool.Decides.{nat_tests}
 use Rattle.std.proofs.lemmas.List.{append_cancel_left, map-append}
@@ -36,7 +36,7 @@ alike_is [] (n ∷ ns) h = absurd h
 alike_is (m ∷ ms) [] h = absurd h
 alike_is (m ∷ ms) (n ∷ ns) h = λ i. record { token = h.0 i; ordinal = h.1.0 refl i } ∷ alike_is ms ns h.1.1 i
 
--- two lists appended to the same marks are the same
+-- Two lists that give the same marks when appended to the same marks are equal.
 same_added : (before after xs ys : List OrdinalMark) → after ≡ before ++ xs → after ≡ before ++ ys → xs ≡ ys
 same_added before after xs ys e f = append_cancel_left before xs ys (sym e ∙ f)
 
@@ -57,7 +57,7 @@ is_less x y less = one (nat_lt x y) refl
     one true e = refl
     one false e = absurd (grind (arith, nat_tests))
 
--- the tokens before one of some that ascend
+-- The tokens listed before x are the tokens before x, if all of them are below x.
 stops_at : (x : ℕ) (xs extra : List ℕ) → AllBelow x xs → first_before x (xs ++ (x ∷ extra)) ≡ xs
 stops_at x [] extra h = ap (λ b. if b then x ∷ first_before x extra else []) (not_itself x)
 stops_at x (y ∷ ys) extra h =
@@ -65,7 +65,7 @@ stops_at x (y ∷ ys) extra h =
 
 -- ---- a procedure's tokens end with its closing name
 
--- the identifiers of a procedure except the last
+-- returns the identifiers of a procedure except its closing name
 abbrev inside : Tree ℕ (item procedure) → List ℕ
 inside (declares_procedure x fs b closing) = x ∷ names_only (identifiers role.Declaring fs ++ identifiers role.Declaring b)
 
@@ -81,7 +81,7 @@ procedure_below low p from to less h =
     both [] h = (less, tt)
     both (x ∷ xs) h = (h.0, both xs h.1)
 
--- the tokens after a procedure
+-- The tokens after a procedure ascend from its closing name.
 ascend_after : (p : Tree ℕ (item procedure)) (rest : List ℕ) (from to : ℕ) → Ascending from (leaves p ++ rest) to → Ascending (closing_name p + 1) rest to
 ascend_after p rest from to h =
     let split : leaves p ++ rest ≡ inside p ++ (closing_name p ∷ rest) = ap (λ l. l ++ rest) (procedure_ends p) ∙ append_assoc (inside p) (closing_name p ∷ []) rest in
@@ -93,7 +93,7 @@ module _ (old new : Writing) (all : List ℕ) (bound low high : ℕ) (same : (i 
   abbrev out : ℕ → Bool
   out = is_out low high
 
-  -- the walks through the old text and through the new one
+  -- holds if the complete walks through the old text and through the new one are at the same place
   abbrev pub Near : Visit → Visit → Type 0
   Near = Beside out old new same
 
@@ -103,7 +103,7 @@ module _ (old new : Writing) (all : List ℕ) (bound low high : ℕ) (same : (i 
   pub nothing_new : (i : ℕ) → true ≡ true → name_at new i ≡ name_at new i
   nothing_new i e = refl
 
-  -- the walk to the body, and the complete walk through the new text
+  -- holds if the walk to the body and the complete walk through the new text are at the same place
   abbrev pub On : Visit → Visit → Type 0
   On = Beside (λ i. true) new new nothing_new
 
@@ -143,12 +143,12 @@ module _ (old new : Writing) (all : List ℕ) (bound low high : ℕ) (same : (i 
         outside = all_in (v.declarations ++ first_before x (drop (length v.declarations) all));
       }
 
-  -- the same part from the same place: all marks are the same
+  -- Two walks through the same part from the same place make the same marks.
   covers_part : (o w o' w' v v' : Visit) (near : Adds out old new same o w o' w') (on : Adds (λ i. true) new new nothing_new v w v' w') → Covers out near.seconds on.firsts
   covers_part o w o' w' v v' near on =
       subst (Covers out near.seconds) (same_added w.marks w'.marks near.seconds on.seconds near.second_is on.second_is ∙ sym (alike_is on.firsts on.seconds on.alike)) (covers_same out near.seconds)
 
-  -- the ordinals and labels that `Passing` uses don't matter here
+  -- the empty table, since ordinals and labels that `Passing` uses don't matter here
   nowhere : ℕ → Option ℕ
   nowhere i = None
 
@@ -158,7 +158,7 @@ module _ (old new : Writing) (all : List ℕ) (bound low high : ℕ) (same : (i 
   abbrev value : ℕ → ℕ
   value i = i
 
-  -- one part after another
+  -- Reaching the body in the second of two parts reaches it in both together.
   joined_reach : (o w v o₁ w₁ v₁ o₂ w₂ v₂ : Visit) (near : NearGoes o w o₁ w₁) (on : Adds (λ i. true) new new nothing_new v w v₁ w₁) → Reaches o₁ w₁ v₁ o₂ w₂ v₂ → Reaches o w v o₂ w₂ v₂
   joined_reach o w v o₁ w₁ v₁ o₂ w₂ v₂ near on r = record {
     near = goes_then out old new same near r.near;
@@ -167,7 +167,7 @@ module _ (old new : Writing) (all : List ℕ) (bound low high : ℕ) (same : (i 
     covers = covers_both out (covers_part o w o₁ w₁ v v₁ near.adds on) r.covers;
   }
 
-  -- the declarations in a procedure after its name
+  -- returns the declaring tokens in a procedure after its name
   abbrev others_declared : Tree ℕ (item procedure) → List ℕ
   others_declared (declares_procedure x fs b closing) = declaring_only (identifiers role.Declaring fs ++ (identifiers role.Declaring b ++ ((role.ClosingName, closing) ∷ [])))
 
@@ -180,7 +180,8 @@ module _ (old new : Writing) (all : List ℕ) (bound low high : ℕ) (same : (i 
   statements_declare_nothing : (t : Tree ℕ (maybe body)) → declaring_only (identifiers role.Declaring t) ≡ []
   statements_declare_nothing t = (declares_nothing tt t).plain
 
-  -- the statement about procedures and statements, and about one procedure
+  -- states that the walk through procedures and statements reaches the body; `Here` states it for
+  -- one procedure
   abbrev Rest : Tree ℕ (items procedure) → Tree ℕ (maybe body) → Type 0
   Rest ps statements =
       (o w v : Visit) (from to : ℕ) (extra : List ℕ) → is_in_procedures low high ps statements ≡ true → Ascending from (leaves ps ++ leaves statements) to
@@ -193,7 +194,7 @@ module _ (old new : Writing) (all : List ℕ) (bound low high : ℕ) (same : (i 
       → all ≡ w.declarations ++ (declaring_only (identifiers role.Declaring q) ++ extra) → Itself w → Near o w → On v w
       → Reaches o w v (visit_procedure q o) (visit_procedure q w) (renumber_procedure put all low q v)
 
-  -- one more procedure: either it is skipped, or the body is in it
+  -- One more procedure is either skipped, or has the body in it.
   one_procedure : (q : Tree ℕ (item procedure)) (ps : Tree ℕ (items procedure)) (statements : Tree ℕ (maybe body)) (o w v : Visit) (from to : ℕ) (rest : List ℕ) → Rest ps statements → Here q
       → all ≡ w.declarations ++ (declaring_only (identifiers role.Declaring q) ++ (declaring_only (identifiers role.Declaring ps) ++ rest)) → Itself w → Near o w → On (caught_up all (procedure_name q) v) w
       → Ascending from (leaves q ++ (leaves ps ++ leaves statements)) to → (b : Bool) → nat_lt (closing_name q) low ≡ b
@@ -343,7 +344,7 @@ module _ (old new : Writing) (all : List ℕ) (bound low high : ℕ) (same : (i 
 
   -- ---- the module
 
-  -- the marks of all three walks through a module
+  -- states how the marks of all three walks through a module agree
   pub record Marked (m : Tree ℕ module_text) : Type 0 where
     pub alike : Alike out (visit_module m (started old)).marks (visit_module m (started new)).marks
     pub covers : Covers out (visit_module m (started new)).marks (marks_again all low m new)

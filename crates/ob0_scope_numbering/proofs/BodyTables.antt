@@ -1,5 +1,5 @@
--- If all tokens outside one body have the same spellings as before, the old table numbers the new
--- text once that body is numbered again.
+-- Proves that the old table numbers the new text once one body is numbered again. All tokens
+-- outside that body must have the same spellings as before.
 use Rattle.std.proofs.Common.{◌≡◌, ◌≢◌, ◌<◌, ◌≤◌, ◌==◌, ◌||◌, ℕ, ◌+◌, Bool, true, false, Option, None, List, [], ◌∷◌, length, set, refl, sym, ap, ◌∙◌, subst, arith, get_or-set_other, get_or-set_same}
 use Rattle.std.proofs.Math.ListN.{length-set}
 use Rattle.std.specs.List.{list_any}
@@ -49,19 +49,20 @@ covers_before out read n covers_none h = h
 covers_before out read n (covers_one m p) h = (h.0, covers_before out read n p h.1)
 covers_before out read n (covers_more m e p) h = covers_before out read n p h.1
 
--- states that a table has the ordinals of the marks whose tokens pass a test
+-- holds if a table has the ordinals of the marks whose tokens pass a test
 abbrev pub HasMarksAt : (ℕ → Bool) → (ℕ → Option ℕ) → List OrdinalMark → Type 0
 HasMarksAt out read [] = Unit {0}
 HasMarksAt out read (m ∷ ms) = (out m.token ≡ true → read m.token ≡ m.ordinal) × HasMarksAt out read ms
 
--- a mark before some others is at a different token
+-- Setting the entry of an earlier token doesn't change the later marks in a table.
 kept_marks : (out : ℕ → Bool) (table : List (Option ℕ)) (i : ℕ) (ordinal : Option ℕ) (ms : List OrdinalMark) (high : ℕ) → Ascending (i + 1) (tokens_of ms) high → HasMarksAt out (ordinal_in table) ms → HasMarksAt out (ordinal_in (set table i ordinal)) ms
 kept_marks out table i ordinal [] high ascend has = tt
 kept_marks out table i ordinal (m ∷ ms) high ascend has =
     let other : m.token ≢ i = omega (arith, ascend.0) in
     (λ e. get_or-set_other table i m.token ordinal None other ∙ has.0 e, kept_marks out table i ordinal ms high (ascending_lower (i + 1) (m.token + 1) (tokens_of ms) high (omega (arith, ascend.0)) ascend.1) has.1)
 
--- if marks are alike, a table has the ordinals of both
+-- If marks are alike, a table with the first marks has the second ones at the tokens that pass the
+-- test.
 marks_alike : (out : ℕ → Bool) (read : ℕ → Option ℕ) (os ms : List OrdinalMark) → HasMarks read os → Alike out os ms → HasMarksAt out read ms
 marks_alike out read [] [] has alike = tt
 marks_alike out read [] (m ∷ ms) has alike = absurd alike
@@ -69,7 +70,7 @@ marks_alike out read (o ∷ os) [] has alike = absurd alike
 marks_alike out read (o ∷ os) (m ∷ ms) has alike =
     (λ e. ap read (sym alike.0) ∙ (has.0 ∙ alike.1.0 (subst (λ i. out i ≡ true) (sym alike.0) e)), marks_alike out read os ms has.1 alike.1.1)
 
--- a table with the marks outside a body has all marks after entering the marks of the body
+-- A table with the marks outside a body has all marks after the marks of the body are entered.
 covered_marks : (out : ℕ → Bool) (table : List (Option ℕ)) {ms ns : List OrdinalMark} (low high : ℕ) → HasMarksAt out (ordinal_in table) ms → Covers out ms ns → Ascending low (tokens_of ms) high → high ≤ length table
     → HasMarks (ordinal_in (with_marks table ns)) ms
 covered_marks out table low high has covers_none ascend within = tt
@@ -87,7 +88,7 @@ covered_marks out table low high has (covers_more {ms} {ns} m e p) ascend within
     let others = covers_ascend out (m.token + 1) high p ascend.1 in
     (kept_below ns table (m.token + 1) high m.token others here ∙ has.0 e, covered_marks out table (m.token + 1) high has.1 p ascend.1 within)
 
--- the marks of the two texts are alike except in the range
+-- The marks of the two texts are alike except in the range.
 pub body_alike : (old : Scanned) (m : Parsed) (low high : ℕ) → IsParsed m → IsBodyChange old m low high
     → Alike (is_out low high) (visit_module (tree_of m) (started (as_in old))).marks (visit_module (tree_of m) (started (as_in m.source))).marks
 body_alike old m low high parsed change =
@@ -96,13 +97,13 @@ body_alike old m low high parsed change =
     let rise = declaring_ascend (identifiers role.Declaring (tree_of m)) 0 (length m.source.tokens) rising in
     (module_marked (as_in old) (as_in m.source) all (length m.source.tokens) low high (λ i e. sym (text_out old m low high change i e)) rise (tree_of m) (length m.source.tokens) change.in_body rising refl).alike
 
--- the marks of a body that is numbered again
+-- states that a table has all marks after a body was numbered again
 pub record Renumbered (m : Parsed) (table : List (Option ℕ)) (made : List (Option ℕ)) : Type 0 where
   pub marks : HasMarks (ordinal_in made) (visit_module (tree_of m) (started (as_in m.source))).marks
   pub elsewhere : (i : ℕ) → list_any (λ j. j == i) (leaves (tree_of m)) ≡ false → ordinal_in made i ≡ ordinal_in table i
 
--- if a table has the marks outside a range, it has all marks after numbering the body with the
--- range again
+-- If a table has the marks outside a range, it has all marks after the body with the range is
+-- numbered again.
 pub body_renumbered : (m : Parsed) (low high : ℕ) (table : List (Option ℕ)) (all : List ℕ) → IsParsed m → IsScan m.source → is_in_body low high (tree_of m) ≡ true
     → HasMarksAt (is_out low high) (ordinal_in table) (visit_module (tree_of m) (started (as_in m.source))).marks
     → all ≡ declaring_only (identifiers role.Declaring (tree_of m)) → length m.source.tokens ≤ length table

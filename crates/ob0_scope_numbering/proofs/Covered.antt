@@ -1,5 +1,5 @@
--- A walk to only one body. It sees the same names there as the complete walk, and the parts that it
--- skips have no token of the range.
+-- Proves that a walk to only one body sees the same names there as the complete walk. The parts
+-- that it skips have no token of the range.
 use Rattle.std.proofs.Common.{◌≡◌, ◌<◌, ◌≤◌, ℕ, ◌+◌, Bool, true, false, ◌&&◌, ◌||◌, nat_le, nat_lt, if◌then◌else◌, List, [], ◌∷◌, ◌++◌, refl, subst, arith, append_assoc}
 use Rattle.std.proofs.lemmas.List.{map-append}
 use Rattle.std.proofs.lemmas.Bool.Decides.{nat_tests}
@@ -16,7 +16,7 @@ use Rattle.ob0_scope_numbering.specs.Marks.{OrdinalMark}
 use Rattle.ob0_scope_numbering.proofs.Alongside.{AllOut}
 use Rattle.ob0_scope_numbering.proofs.Passing.{tokens_of}
 
--- the declaring identifiers ascend if all identifiers do
+-- The declaring identifiers ascend if all identifiers do.
 pub declaring_ascend : (xs : List (Role × ℕ)) (low high : ℕ) → Ascending low (names_only xs) high → Ascending low (declaring_only xs) high
 declaring_ascend [] low high h = h
 declaring_ascend ((role.Declaring, n) ∷ xs) low high h = (h.0, declaring_ascend xs (n + 1) high h.1)
@@ -54,7 +54,7 @@ begun : (low high : ℕ) (pre : List ℕ) (xs : List (Role × ℕ)) (from to : �
 begun low high pre [] from to e h = absurd (cc)
 begun low high pre (x ∷ xs) from to e h = let le : x.1 ≤ low = grind (arith, nat_tests) in below_more x.1 low pre le (before_one from pre x.1 (names_only xs) to h)
 
--- the identifiers before a block's procedures and statements
+-- returns the identifiers of a block before its procedures and statements
 abbrev pub sections : Tree ℕ block → List (Role × ℕ)
 sections (has_body (declares cs ts vs ps) statements) = identifiers role.Declaring cs ++ (identifiers role.Declaring ts ++ identifiers role.Declaring vs)
 
@@ -98,7 +98,7 @@ module _ (low high : ℕ) where
 
 -- ---- marks of which some are skipped
 
--- states that the first marks are the second ones and others, whose tokens pass a test
+-- holds if the first marks are the second ones and others, whose tokens pass a test
 pub data Covers (out : ℕ → Bool) : List OrdinalMark → List OrdinalMark → Type 0 where
   covers_none : Covers out [] []
   covers_one : {ms ns : List OrdinalMark} → (m : OrdinalMark) → Covers out ms ns → Covers out (m ∷ ms) (m ∷ ns)

@@ -1,5 +1,5 @@
--- Loops over declarations: names after the first, sections of parameters, and declarations that are
--- still to be shown.
+-- Proves the loops over declarations: names after the first, sections of parameters, and
+-- declarations that are still to be shown.
 use Rattle.std.proofs.Common.{◌≡◌, ℕ, List, [], ◌∷◌, refl, ap}
 use Rattle.ob0_tree.specs.Tree.{one, then_name}
 use Rattle.ob0_tree.specs.declared.tree.Section.{Section}

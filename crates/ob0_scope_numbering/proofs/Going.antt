@@ -1,6 +1,6 @@
--- Loops over a list: doing the rest of the work now gives the same result as doing all of it at
--- first. The invariant is a record with one equation, so that `init` and `preserved` are proved
--- automatically, even if the step is a call.
+-- Defines the invariant of a loop over a list: doing the rest of the work now gives the same result
+-- as doing all of it at first. It is a record with one equation, so that `init` and `preserved` are
+-- proved automatically, even if the step is a call.
 use Rattle.std.proofs.Common.{◌≡◌, ℕ, ◌+◌, ◌<◌, ◌≤◌, List, [], ◌∷◌, length, get_or, drop, sym, ap, ◌∙◌}
 use Rattle.std.proofs.lemmas.List.{drop_all, drop_more}
 

@@ -1,5 +1,5 @@
--- A text has fewer declarations than an entry has ordinals, so entries can hold the ordinals of all
--- marks.
+-- Proves that a text has fewer declarations than an entry has ordinals, so entries can hold the
+-- ordinals of all marks.
 use Rattle.std.proofs.Common.{◌≡◌, ℕ, suc, ◌+◌, ◌≤◌, Option, Some, None, List, [], ◌∷◌, length, replicate, set, refl, sym, ap, ◌∙◌, subst, arith, append-nil}
 use Rattle.std.proofs.Math.Nat.{min-eq_left}
 use Rattle.ob0_scan.specs.Scanned.{IsScan}
@@ -32,12 +32,12 @@ before_more k n None le h = tt
 before_more k n (Some j) le h = omega (arith, le, h)
 
 module _ (table : ℕ → Option ℕ) (n : ℕ) where
-  -- states that the table's entries at these tokens are below a number
+  -- holds if the table's entries at these tokens are below a number
   abbrev AreBeforeAt : List ℕ → Type 0
   AreBeforeAt [] = Unit {0}
   AreBeforeAt (i ∷ is) = IsBefore n (table i) × AreBeforeAt is
 
-  -- states that the ordinals of these marks are below a number
+  -- holds if the ordinals of these marks are below a number
   abbrev pub AreMarksBefore : List OrdinalMark → Type 0
   AreMarksBefore [] = Unit {0}
   AreMarksBefore (m ∷ ms) = IsBefore n m.ordinal × AreMarksBefore ms
@@ -58,7 +58,7 @@ module _ (table : ℕ → Option ℕ) (n : ℕ) where
 
 -- ---- entries can hold such ordinals
 
--- a table after writing the entry of each mark at its token
+-- returns a table after the entry of each mark was written at its token
 abbrev pub with_entries : List (Option ℕ) → List OrdinalMark → List (Option ℕ)
 with_entries table [] = table
 with_entries table (m ∷ ms) = with_entries (set table m.token (kept m.ordinal)) ms
@@ -94,7 +94,7 @@ marks_few m w parsed scan =
     let before = before_at read n 7 ids order (omega arith) in
     record { read = read; bound = n; small = omega (arith, few, tokens); before = marks_before read n v.marks (subst (AreBeforeAt read n) (sym passed.tokens) before) has }
 
--- entries have the ordinals of all marks of a module
+-- Entries have the ordinals of all marks of a module.
 pub all_kept : (m : Parsed) (w : Writing) (table : List (Option ℕ)) → IsParsed m → IsScan m.source
     → with_entries table (visit_module (tree_of m) (started w)).marks ≡ with_marks table (visit_module (tree_of m) (started w)).marks
 all_kept m w table parsed scan =

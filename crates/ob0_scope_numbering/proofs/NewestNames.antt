@@ -1,5 +1,4 @@
--- Names that were bound: the result of a look-up after a name gets another newest binding, or after
--- a name is added.
+-- Proves what a look-up finds after a name gets another newest binding, or after a name is added.
 use Rattle.std.proofs.Common.{◌≡◌, ◌⊎◌, inl, inr, if◌then◌else◌, ℕ, zero, suc, ◌+◌, ◌<◌, Bool, true, false, cond, Option, Some, None, List, [], ◌∷◌, ◌++◌, map, length, get_or, set, option_map, refl, sym, ap, ◌∙◌, subst, arith, Bor, bytes_eq, is_eq, Ordering, Less, Equal, Greater, ⊎_elim}
 use Rattle.std.proofs.Math.ListN.{get_or-append, get_or-map, length-set}
 use Rattle.std.proofs.Math.Seq.{get_or-append_seam, map-set_same}
@@ -17,7 +16,7 @@ use Rattle.ob0_language_names.specs.Names.{Name, same_name}
 use Rattle.ob0_language_names.proofs.NameEquality.{same_name-comm, same_name-refl}
 use Rattle.ob0_scope_numbering.specs.NewestNames.{ArePlaces, IsRenewed, KeepsNewest, newest_in, place_of}
 
--- the cases of a look-up: the first name, a later one, or none
+-- If a look-up finds position 0, the first name is the one looked up.
 first_place : (same : Bool) (o : Option ℕ) → (if same then Some zero else option_map suc o) ≡ Some zero → same ≡ true
 first_place true o e = refl
 first_place false None e = absurd (cc)
@@ -41,7 +40,7 @@ if_false : (same : Bool) (v w : Option ℕ) → same ≡ false → (if same then
 if_false true v w e = absurd (cc)
 if_false false v w e = refl
 
--- the entry at a name's position
+-- states that an entry is at a name's position
 pub record IsAtIndex (es : List BoundName) (x : Name) (i : ℕ) (d : BoundName) : Type 0 where
   pub below : i < length es
   pub named : (get_or es i d).name.now ≡ x
@@ -63,7 +62,7 @@ newest_none (e ∷ es) x h =
     let n = no_place (same_name x e.name.now) (place_of es x) h in
     if_false (same_name x e.name.now) e.newest (newest_in es x) n.0 ∙ newest_none es x n.1
 
--- an entry that is changed, and one before it
+-- Setting an entry changes the look-up at that entry, and not at one before it.
 here_renewed : (a b c : Bool) (v w r : Option ℕ) → a ≡ b → c ≡ b → (if a then v else r) ≡ (if b then v else (if c then w else r))
 here_renewed true true true v w r f g = refl
 here_renewed true true false v w r f g = refl
@@ -85,7 +84,7 @@ there_placed true false n o s f g = ap (option_map suc) g
 there_placed false true n o s f g = refl
 there_placed false false n o s f g = ap (option_map suc) g
 
--- a name that differs from the first one belongs to another entry
+-- If x differs from a name, every name equal to x does.
 apart : (x y n : Name) → same_name x n ≡ false → same_name x y ≡ true → same_name y n ≡ false
 apart x y n e same = subst (λ z. same_name z n ≡ false) ((bytes_eq-Decides x y).0 same) e
 
@@ -123,8 +122,7 @@ place_added (e ∷ es) r h y =
     there_placed (same_name r.name.now y) (same_name y e.name.now) (length es) (place_of es y) (place_of (es ++ (r ∷ [])) y)
     (apart r.name.now y e.name.now n.0) (place_added es r n.1 y)
 
--- the map has the positions of the names after one gets another newest binding, and after one is
--- added
+-- The map has the positions of the names after one gets another newest binding.
 pub places_renewed : (places : BTreeMap Key ℕ) (es : List BoundName) (x : Name) (i : ℕ) (r : BoundName) → r.name.now ≡ x → place_of es x ≡ Some i → ArePlaces places es → ArePlaces places (set es i r)
 places_renewed places es x i r named h w =
     let name : BoundName → Name = λ (e : BoundName). e.name.now in
@@ -143,7 +141,7 @@ then_apart Less p e = refl
 then_apart Equal p e = e
 then_apart Greater p e = refl
 
--- two names have the same key if they are the same
+-- Two names have the same key exactly if they are equal.
 same_key : (a x : Name) → is_eq (ordering_then (nat_cmp (number_of a) (number_of x)) (slice_cmp nat_cmp a x)) ≡ bytes_eq a x
 same_key a x =
     ⊎_elim
@@ -153,7 +151,7 @@ same_key a x =
     (λ n. then_apart (nat_cmp (number_of a) (number_of x)) (slice_cmp nat_cmp a x) (is_eq-slice_cmp a x ∙ n) ∙ sym n)
     (cases_Bool (bytes_eq a x))
 
--- states that a map results from setting the value of a key
+-- holds if a map results from setting the value of a key
 abbrev pub Renews : Key → BTreeMap Key ℕ → BTreeMap Key ℕ → Option ℕ → Type 0
 Renews key places next value = UpdatesBy compare_keys (compare_keys key) places next value
 
@@ -202,7 +200,7 @@ places_added places next es r h renews w =
           ];
     }
 
--- a name that is added is unbound
+-- Adding a name without a binding keeps the newest bindings.
 pub none_newer : (es : List BoundName) (r : BoundName) → r.newest ≡ None → place_of es r.name.now ≡ None → KeepsNewest es (es ++ (r ∷ []))
 none_newer es r e absent = λ y. added es r absent y ∙ one y (same_name r.name.now y) refl
   where

@@ -1,5 +1,5 @@
--- The state after each part of a module: the visible names, and that a table with all marks numbers
--- the part.
+-- Proves the state after each part of a module: which names are visible, and that a table with all
+-- marks numbers the part.
 use Rattle.std.proofs.Common.{◌≡◌, ◌<◌, ◌≤◌, ℕ, suc, ◌+◌, ◌-◌, true, false, Option, Some, None, List, [], ◌∷◌, ◌++◌, map, length, drop, refl, sym, ap, ◌∙◌, subst, arith, append_assoc, append-nil, length-append}
 use Rattle.std.proofs.lemmas.List.{map-append}
 use Rattle.std.proofs.Math.Seq.{drop-append-add}
@@ -22,7 +22,7 @@ use Rattle.ob0_language_names.proofs.OccurrenceNames.{length-map}
 use Rattle.ob0_language_names.proofs.Peeling.{Two}
 use Rattle.ob0_scope_table.proofs.Plain.{IsPlain, declares_nothing, declaring_only-append}
 
--- states that a table has each mark's ordinal at its token
+-- holds if a table has each mark's ordinal at its token
 abbrev pub HasMarks : (ℕ → Option ℕ) → List OrdinalMark → Type 0
 HasMarks table [] = Unit {0}
 HasMarks table (m ∷ ms) = (table m.token ≡ m.ordinal) × HasMarks table ms
@@ -34,12 +34,12 @@ marks_split table (x ∷ xs) ys h = let rest = marks_split table xs ys h.1 in ((
 abbrev pub tokens_of : List OrdinalMark → List ℕ
 tokens_of ms = map (λ m. m.token) ms
 
--- states that an ordinal, if there is one, is below this one
+-- holds if an ordinal, if there is one, is below k
 abbrev pub IsBefore : ℕ → Option ℕ → Type 0
 IsBefore k None = Unit {0}
 IsBefore k (Some j) = j < k
 
--- states that all names of a scope are bound to earlier declarations
+-- holds if all names of a scope are bound to ordinals below k
 abbrev AreBefore : ℕ → Scope Name → Type 0
 AreBefore k [] = Unit {0}
 AreBefore k (b ∷ s) = (b.1 < k) × AreBefore k s
@@ -60,8 +60,8 @@ looked_up_before : (k : ℕ) (s : Scope Name) (x : Name) → AreBefore k s → I
 looked_up_before k [] x h = tt
 looked_up_before k (b ∷ s) x h = elim (same_name x b.0) as (λ v. IsBefore k (elim v [ true ↦ Some b.1 | false ↦ ordinal_of as_names s x ])) [ true ↦ h.0 | false ↦ looked_up_before k s x h.1 ]
 
--- states that each declaring identifier has the next ordinal, and that each other one has the
--- ordinal of an earlier declaration or none
+-- holds if each declaring identifier has the next ordinal, and each other one has the ordinal of an
+-- earlier declaration or none
 abbrev pub AreInOrder : (ℕ → Option ℕ) → ℕ → List (Role × ℕ) → Type 0
 AreInOrder table k [] = Unit {0}
 AreInOrder table k ((role.Declaring, i) ∷ xs) = (table i ≡ Some k) × AreInOrder table (suc k) xs
@@ -80,7 +80,7 @@ other_in_order table k role.ClosingName i xs e h rest = (h, rest)
 other_in_order table k role.FieldName i xs e h rest = (h, rest)
 other_in_order table k role.ModuleName i xs e h rest = (h, rest)
 
--- a part that declares nothing
+-- A part that declares nothing is in order before identifiers that are.
 used_in_order : (table : ℕ → Option ℕ) (src : Writing) (s : Scope Name) (k : ℕ) (xs rest : List (Role × ℕ)) → AreBefore k s → declaring_only xs ≡ [] → AllFit table src s xs → AreInOrder table k rest → AreInOrder table k (xs ++ rest)
 used_in_order table src s k [] rest low e h order = order
 used_in_order table src s k ((role.Declaring, i) ∷ xs) rest low e h order = absurd (some_declared e)
@@ -95,7 +95,7 @@ pub record At (v : Visit) (src : Writing) (s : Scope Name) (k : ℕ) : Type 0 wh
   pub next : 7 + length v.declarations ≡ k
   pub before : AreBefore k s
 
--- the same facts, with the visible names and the number of declarations of the state itself
+-- The state has its own visible names and its own number of declarations.
 pub at_itself : {v : Visit} {src : Writing} {s : Scope Name} {k : ℕ} → At v src s k → At v src v.scope (7 + length v.declarations)
 at_itself {v = v} {k = k} at = record { writing = at.writing; scope = refl; next = refl; before = subst (λ n. AreBefore n v.scope) (sym at.next) (subst (AreBefore k) (sym at.scope) at.before) }
 
@@ -105,7 +105,7 @@ at_start src = record { writing = refl; scope = refl; next = refl; before = name
 joined : {X Y : Type 0} (f : List X → List Y) (xs ys : List X) (a b c : List Y) → f (xs ++ ys) ≡ f xs ++ f ys → b ≡ a ++ f xs → c ≡ b ++ f ys → c ≡ a ++ f (xs ++ ys)
 joined f xs ys a b c split e g = g ∙ (ap (λ z. z ++ f ys) e ∙ (append_assoc a (f xs) (f ys) ∙ ap (λ z. a ++ z) (sym split)))
 
--- a scope with newer bindings
+-- states that a scope is another scope with newer bindings
 pub record Extends (s s' : Scope Name) : Type 0 where
   pub newer : List (Name × ℕ)
   pub is : s' ≡ newer ++ s
@@ -142,7 +142,7 @@ left_extends {s = s} e =
     let count : length (e.newer ++ s) - length s ≡ length e.newer + 0 = omega (arith, length-append e.newer s) in
     ap (λ z. drop (length z - length s) z) e.is ∙ (ap (λ n. drop n (e.newer ++ s)) count ∙ drop-append-add e.newer s 0)
 
--- the state after the identifiers of a part that declares nothing
+-- states which state follows the identifiers of a part that declares nothing
 record FoundAll (table : ℕ → Option ℕ) (src : Writing) (v w : Visit) (xs : List (Role × ℕ)) : Type 0 where
   writing : w.writing ≡ v.writing
   scope : w.scope ≡ v.scope
@@ -192,8 +192,8 @@ found_every table src (x ∷ xs) v =
           (now.0, (now.1.0, subst (λ s. AllFit table src s xs) a.scope later.1));
     }
 
--- the state after a part: the identifiers in it, the names visible after it, the next ordinal, and
--- the conclusion for a table with all marks
+-- states which state follows a part: its identifiers, the names visible after it, the next ordinal,
+-- and the claim P about a table with all marks
 pub record Passed (table : ℕ → Option ℕ) (src : Writing) (v w : Visit) (ids : List (Role × ℕ)) (s : Scope Name) (k : ℕ) (P : Type 0) : Type 0 where
   pub at : At w src s k
   pub declared : w.declarations ≡ v.declarations ++ declaring_only ids
@@ -206,11 +206,11 @@ module _ {M : Type 0} (table : ℕ → Option ℕ) (label : Labels Name M) (src 
   abbrev Passes : Visit → Visit → List (Role × ℕ) → Scope Name → ℕ → Type 0 → Type 0
   Passes = Passed table src
 
-  -- a part with the spellings as its names, and any numbers
+  -- returns a part with the spellings as its names, and any numbers
   abbrev pub spelled : {s : Sort} → Tree ℕ s → Tree Name s
   spelled t = mapped (name_at src) value t
 
-  -- a part with the table's ordinals
+  -- returns a part with the table's ordinals as labels
   abbrev by_table : {s : Sort} → Tree ℕ s → Tree M s
   by_table t = mapped (λ i. label (table i) (name_at src i)) value t
 
@@ -290,7 +290,7 @@ module _ {M : Type 0} (table : ℕ → Option ℕ) (label : Labels Name M) (src 
             subst (λ n. AreInOrder table n ((r, x) ∷ later)) (sym at.next) (other_in_order table k r x later no_declaration here o);
       }
 
-  -- states that names have the ordinals from k upwards
+  -- holds if names have the ordinals from k upwards
   abbrev HasNumbers : ℕ → List ℕ → Type 0
   HasNumbers k [] = Unit {0}
   HasNumbers k (x ∷ xs) = (table x ≡ Some k) × HasNumbers (suc k) xs
@@ -333,7 +333,7 @@ module _ {M : Type 0} (table : ℕ → Option ℕ) (label : Labels Name M) (src 
   drop_past : (xs ys : List ℕ) → drop (length xs) (xs ++ ys) ≡ ys
   drop_past xs ys = let n : length xs + 0 ≡ length xs = omega arith in ap (λ n. drop n (xs ++ ys)) (sym n) ∙ drop-append-add xs ys 0
 
-  -- the declarations of a part are visible after it
+  -- The declarations of a part are visible after it.
   show_passed : {a b : Visit} {xs : List (Role × ℕ)} {s s' : Scope Name} {k k' : ℕ} {P : Type 0} (ns : List Name) → At a src s k → map (name_at src) (declaring_only xs) ≡ ns → Passes a b xs s' k' P
       → Passes a (visible_from (length a.declarations) b) xs (declare_names k ns s') k' P
   show_passed {a = a} {b = b} {xs = xs} {s' = s'} {k = k} {k' = k'} ns at are p =
@@ -359,7 +359,7 @@ module _ {M : Type 0} (table : ℕ → Option ℕ) (label : Labels Name M) (src 
       declaring_only-append (identifiers role.Declaring ns) (identifiers role.Declaring t)
       ∙ ((λ i. declaring_only (sym (names_declaring ns) i) ++ (declares_nothing tt t).plain i) ∙ (append-nil (declaring_only (all_declaring (names_listed ns))) ∙ listed_declaring (names_listed ns)))
 
-  -- names of one type, visible after it
+  -- Names of one type are visible after their type.
   group_passed : (ns : Tree ℕ names) (t : Tree ℕ written_type) (v : Visit) (s : Scope Name) (k : ℕ) → At v src s k
       → Passes v (visible_from (length v.declarations) (used t (numbered_all (names_listed ns) v))) (identifiers role.Declaring ns ++ identifiers role.Declaring t)
       (declare_names k (names_listed (spelled ns)) s) (after_names k (names_listed (spelled ns)))
@@ -479,7 +479,7 @@ module _ {M : Type 0} (table : ℕ → Option ℕ) (label : Labels Name M) (src 
         in_order = p.in_order;
       }
 
-  -- a procedure's name and its parameters
+  -- The name and the parameters of a procedure are passed like any part.
   pub heading_passed : (x : ℕ) (fs : Tree ℕ (maybe formals)) (v : Visit) (s : Scope Name) (k : ℕ) → At v src s k
       → Passes v (after_heading (length v.declarations) (length v.scope) (visit_formals fs (numbered_at x v))) ((role.Declaring, x) ∷ identifiers role.Declaring fs)
       (declare_names (suc k) (formal_names (formal_sections (spelled fs))) ((name_at src x, k) ∷ s)) (after_names (suc k) (formal_names (formal_sections (spelled fs))))

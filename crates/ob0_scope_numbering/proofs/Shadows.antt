@@ -1,4 +1,4 @@
--- Bindings that hide one another: the result of a look-up after a binding is made or dropped.
+-- Proves what a look-up finds after a binding that hides another is made or dropped.
 use Rattle.std.proofs.Common.{◌≡◌, ◌⊎◌, inl, inr, if◌then◌else◌, ℕ, ◌<◌, Bool, true, false, Option, Some, None, List, [], ◌∷◌, ◌++◌, map, length, get_or, reverse, refl, sym, ap, ◌∙◌, subst, arith}
 use Rattle.std.proofs.lemmas.List.{reverse-append, reverse-reverse, length-reverse}
 use Rattle.std.proofs.Math.ListN.{get_or-append}
@@ -93,8 +93,7 @@ binding_dropped newest next items b w renewed =
       hidden = trail.1;
     }
 
--- each binding has its name's position, even after the list of names changed or a binding was added
--- or removed
+-- Each binding still has its name's position after the list of names has changed.
 pub still_placed : (before after : List BoundName) (bs : List Binding) → KeepsPlaces before after → ArePlaced before bs → ArePlaced after bs
 still_placed before after [] kept h = tt
 still_placed before after (b ∷ bs) kept h = (kept b.name.now b.place h.0, still_placed before after bs kept h.1)
@@ -107,7 +106,7 @@ pub one_less_placed : (newest : List BoundName) (items : List Binding) (b : Bind
 one_less_placed newest [] b h = (tt, h.0)
 one_less_placed newest (x ∷ items) b h = let rest = one_less_placed newest items b h.1 in ((h.0, rest.0), rest.1)
 
--- the newest bindings are right after names were added to the list
+-- The newest bindings are right after names were added to the list.
 pub still_newest : (before after : List BoundName) (items : List Binding) → KeepsNewest before after → IsNewest before items → IsNewest after items
 still_newest before after items kept w = record { found = λ x. kept x ∙ w.found x; hidden = w.hidden }
 

@@ -1,5 +1,5 @@
--- Visiting a module with a table gives the same result as entering the listed identifiers in the
--- table.
+-- Proves that visiting a module with a table gives the same result as entering the listed marks in
+-- the table.
 use Rattle.std.proofs.Common.{◌≡◌, ℕ, ◌+◌, Bool, true, false, nat_lt, if◌then◌else◌, Option, Some, None, List, [], ◌∷◌, ◌++◌, length, replicate, set, refl, ap, ◌∙◌}
 use Rattle.ob0_scan.specs.Scanned.{IsScan}
 use Rattle.ob0_tree.specs.declared.tree.Role.{Role}
@@ -23,7 +23,7 @@ with_entries-added : (table : List (Option ℕ)) (ms : List OrdinalMark) (i : �
 with_entries-added table [] i ordinal = refl
 with_entries-added table (m ∷ ms) i ordinal = with_entries-added (set table m.token (kept m.ordinal)) ms i ordinal
 
--- the state with a table that has the entries of the listed identifiers
+-- returns the state with a table that has the entries of the listed marks
 abbrev entered : List (Option ℕ) → listing.Visit → tabling.Visit
 entered table v = record { writing = v.writing; scope = v.scope; declarations = v.declarations; uses = v.uses; marks = with_entries table v.marks }
 
@@ -52,7 +52,7 @@ module _ (table : List (Option ℕ)) where
   used-entered : {s : Sort} (t : Tree ℕ s) (v : listing.Visit) → tabling.used t (entered table v) ≡ entered table (listing.used t v)
   used-entered t v = found_all-entered (identifiers role.Declaring t) v
 
-  -- names and the part after them
+  -- Visiting names and the part after them with a table enters their listed marks.
   names-entered : {s : Sort} (is : List ℕ) (t : Tree ℕ s) (v : listing.Visit)
       → tabling.visible_from (length v.declarations) (tabling.used t (tabling.numbered_all is (entered table v))) ≡ entered table (listing.visible_from (length v.declarations) (listing.used t (listing.numbered_all is v)))
   names-entered is t v = ap (tabling.visible_from (length v.declarations)) (ap (tabling.used t) (numbered_all-entered is v) ∙ used-entered t (listing.numbered_all is v))
@@ -103,7 +103,8 @@ module _ (table : List (Option ℕ)) where
   variable_section-entered none v = refl
   variable_section-entered (one (declares_variables vs)) v = variables-entered vs v
 
-  -- the declarations of a block before its procedures
+  -- Visiting the declarations of a block before its procedures with a table enters their listed
+  -- marks.
   declarations-entered : (cs : Tree ℕ (maybe constants)) (ts : Tree ℕ (maybe type_names)) (vs : Tree ℕ (maybe variables)) (v : listing.Visit)
       → tabling.visit_variable_section vs (tabling.visit_type_section ts (tabling.visit_constant_section cs (entered table v)))
       ≡ entered table (listing.visit_variable_section vs (listing.visit_type_section ts (listing.visit_constant_section cs v)))
@@ -112,7 +113,7 @@ module _ (table : List (Option ℕ)) where
       let v₂ = listing.visit_type_section ts v₁ in
       ap (tabling.visit_variable_section vs) (ap (tabling.visit_type_section ts) (constant_section-entered cs v) ∙ type_section-entered ts v₁) ∙ variable_section-entered vs v₂
 
-  -- the heading before a procedure's block
+  -- Visiting the heading before a procedure's block with a table enters its listed marks.
   heading-entered : (x : ℕ) (fs : Tree ℕ (maybe formals)) (v : listing.Visit)
       → tabling.after_heading (length v.declarations) (length v.scope) (tabling.visit_formals fs (tabling.numbered_at x (entered table v)))
       ≡ entered table (listing.after_heading (length v.declarations) (length v.scope) (listing.visit_formals fs (listing.numbered_at x v)))
@@ -166,7 +167,7 @@ module _ (table : List (Option ℕ)) where
         let w = listing.after_heading (length v.declarations) (length v.scope) (listing.visit_formals fs (listing.numbered_at x v)) in
         ap (renumber_block tabling.put all low b) (heading-entered x fs v) ∙ block_again-entered all low b w
 
--- the marks of the walk to one body
+-- returns the marks of the walk to one body
 abbrev pub marks_again : List ℕ → ℕ → Tree ℕ module_text → Writing → List OrdinalMark
 marks_again all low (is_module x b closing) w = (renumber_block listing.put all low b (listing.started w)).marks
 

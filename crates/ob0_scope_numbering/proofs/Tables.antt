@@ -1,4 +1,5 @@
--- A table into which marks at ascending tokens were entered has each mark's ordinal at its token.
+-- Proves that a table into which marks at ascending tokens were entered has each mark's ordinal at
+-- its token.
 use Rattle.std.proofs.Common.{◌≡◌, ◌≢◌, ◌==◌, ◌||◌, ℕ, ◌+◌, ◌<◌, ◌≤◌, Bool, true, false, Option, None, List, [], ◌∷◌, length, replicate, set, refl, sym, ◌∙◌, subst, arith, get_or-set_other, get_or-set_same, ap, le_refl}
 use Rattle.std.proofs.Math.Dec.{ltb}
 use Rattle.std.proofs.lemmas.Bool.{eqb-false, ltb-false, ltb-true, or_parts}
@@ -16,7 +17,7 @@ use Rattle.ob0_language_names.specs.Scopes.{as_label}
 use Rattle.ob0_scope_table.specs.Resolution.{ordinal_in}
 use Rattle.ob0_scope_numbering.proofs.Passing.{HasMarks, at_start, module_passed, tokens_of}
 
--- entries before the marks are unchanged
+-- Entering marks doesn't change the entries at smaller tokens.
 pub kept_below : (ms : List OrdinalMark) (table : List (Option ℕ)) (low high i : ℕ) → Ascending low (tokens_of ms) high → i < low → ordinal_in (with_marks table ms) i ≡ ordinal_in table i
 kept_below [] table low high i ascend below = refl
 kept_below (m ∷ ms) table low high i ascend below =
@@ -34,7 +35,7 @@ marks_are_there (m ∷ ms) table low high ascend within =
     let still : high ≤ length next = subst (λ n. high ≤ n) (sym (length-set table m.token m.ordinal)) within in
     (kept_below ms next (m.token + 1) high m.token ascend.1 here ∙ get_or-set_same table m.token m.ordinal None inside, marks_are_there ms next (m.token + 1) high ascend.1 still)
 
--- an entry that isn't at any mark's token is unchanged
+-- Entering marks doesn't change an entry that isn't at any mark's token.
 pub kept_elsewhere : (ms : List OrdinalMark) (table : List (Option ℕ)) (i : ℕ) → list_any (λ j. j == i) (tokens_of ms) ≡ false → ordinal_in (with_marks table ms) i ≡ ordinal_in table i
 kept_elsewhere [] table i e = refl
 kept_elsewhere (m ∷ ms) table i e =
@@ -42,7 +43,7 @@ kept_elsewhere (m ∷ ms) table i e =
     let other : i ≢ m.token = λ same. eqb-false m.token i h.0 (sym same) in
     kept_elsewhere ms (set table m.token m.ordinal) i h.1 ∙ get_or-set_other table m.token i m.ordinal None other
 
--- an empty table has no ordinal at any token
+-- An empty table has no ordinal at any token.
 pub none_at : (n i : ℕ) → ordinal_in (replicate n None) i ≡ None
 none_at n i = at (ltb i n) refl
   where
@@ -53,7 +54,7 @@ none_at n i = at (ltb i n) refl
     at true e = get_or-replicate n i None None (ltb-true i n e)
     at false e = get_or_past nothing i None (subst (λ k. k ≤ i) (sym (length-replicate n None)) (ltb-false i n e))
 
--- the table of all marks has each one at its token
+-- The table of all marks has each mark at its token.
 pub marks_in_table : (m : Parsed) (w : Writing) (v : Visit) (ordinals : List (Option ℕ)) → IsParsed m → v ≡ visit_module (tree_of m) (started w)
     → ordinals ≡ with_marks (replicate (length m.source.tokens) None) v.marks → HasMarks (ordinal_in ordinals) (visit_module (tree_of m) (started w)).marks
 marks_in_table m w v ordinals parsed gone tabled =

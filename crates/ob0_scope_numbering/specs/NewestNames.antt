@@ -1,4 +1,4 @@
--- The names that were bound, each once, with the index of its newest binding.
+-- Defines the list of the names that were bound: each once, with the index of its newest binding.
 -- Rule: none; for private contracts: the map of visible names.
 use Rattle.std.specs.Prelude.{◌≡◌, ◌<◌, ℕ, suc, List, [], ◌∷◌, Option, Some, None, if◌then◌else◌, length, option_map, slice_index_or}
 use Rattle.std.specs.BTreeMap.{BTreeMap, get_by}
@@ -6,17 +6,17 @@ use Rattle.ob0_scope_numbering.specs.declared.newest.BoundName.{BoundName}
 use Rattle.ob0_scope_numbering.specs.Keys.{Key, compare_name}
 use Rattle.ob0_language_names.specs.Names.{Name, same_name}
 
--- the index of a name's newest binding
+-- returns the index of a name's newest binding; None if it has none
 abbrev pub newest_in : List BoundName → Name → Option ℕ
 newest_in [] x = None
 newest_in (e ∷ es) x = if same_name x e.name.now then e.newest else newest_in es x
 
--- the position of a name
+-- returns the position of a name in the list; None if it isn't in the list
 abbrev pub place_of : List BoundName → Name → Option ℕ
 place_of [] x = None
 place_of (e ∷ es) x = if same_name x e.name.now then Some 0 else option_map suc (place_of es x)
 
--- states that a name has this newest binding, and that the other names keep theirs
+-- holds if a name now has this newest binding, and the other names keep theirs
 abbrev pub IsRenewed : List BoundName → List BoundName → Name → Option ℕ → Type 0
 IsRenewed before after x newest =
     (y : Name) → newest_in after y ≡ (if same_name x y then newest else newest_in before y)
@@ -28,17 +28,17 @@ pub record ArePlaces (places : BTreeMap Key ℕ) (entries : List BoundName) : Ty
       → i < length entries
       → place_of entries (slice_index_or entries i d).name.now ≡ Some i
 
--- states that a name has the position after all others, and that the others keep theirs
+-- holds if a name was added after all others, and the others keep their positions
 abbrev pub IsAdded : List BoundName → List BoundName → Name → Type 0
 IsAdded before after x =
     (y : Name)
     → place_of after y ≡ (if same_name x y then Some (length before) else place_of before y)
 
--- states that each name in the list keeps its position
+-- holds if each name in the list keeps its position
 abbrev pub KeepsPlaces : List BoundName → List BoundName → Type 0
 KeepsPlaces before after =
     (y : Name) → (i : ℕ) → place_of before y ≡ Some i → place_of after y ≡ Some i
 
--- states that each name keeps its newest binding
+-- holds if each name keeps its newest binding
 abbrev pub KeepsNewest : List BoundName → List BoundName → Type 0
 KeepsNewest before after = (y : Name) → newest_in after y ≡ newest_in before y

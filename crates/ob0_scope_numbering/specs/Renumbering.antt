@@ -1,5 +1,5 @@
--- The walk over a module's identifiers to the body that contains a range of tokens: the
--- declarations on the way to it, and its statements.
+-- Defines the walk over a module's identifiers to the body that contains a range of tokens. It
+-- visits the declarations on the way to the body, and the body's statements.
 -- Rule: none; for contracts of the walk over identifiers.
 use Rattle.std.specs.Prelude.{ℕ, ◌+◌, nat_lt, List, [], ◌∷◌, ◌++◌, Option, length, drop, if◌then◌else◌}
 use Rattle.ob0_tree.specs.Tree.{Tree, block, body, declares, declares_procedure, end, has_body, is_module, item, items, maybe, module_text, more, procedure}
@@ -11,19 +11,19 @@ use Rattle.ob0_scope_numbering.specs.Visiting.{Visit, after_heading, numbered_at
 use Rattle.ob0_scope_numbering.specs.Written.{Writing}
 use Rattle.ob0_scope_table.specs.OneBody.{closing_name}
 
--- the longest prefix of a list whose tokens are all before this one
+-- returns the longest prefix of a list whose tokens are all before this one
 abbrev pub first_before : ℕ → List ℕ → List ℕ
 first_before token [] = []
 first_before token (x ∷ xs) = if nat_lt x token then x ∷ first_before token xs else []
 
--- counts all declarations before a token
+-- counts all declarations before a token, without visiting them
 abbrev pub caught_up : {M : Type 0} → List ℕ → ℕ → Visit M → Visit M
 caught_up all token v =
     record v {
       declarations = v.declarations ++ first_before token (drop (length v.declarations) all);
     }
 
--- counts a declaration
+-- counts a declaration, without visiting it
 abbrev pub counted : {M : Type 0} → ℕ → Visit M → Visit M
 counted token v = record v { declarations = v.declarations ++ (token ∷ []) }
 
@@ -31,17 +31,18 @@ counted token v = record v { declarations = v.declarations ++ (token ∷ []) }
 abbrev pub passed_over : {M : Type 0} → ℕ → Visit M → Visit M
 passed_over x v = visible x (predeclared_count + length v.declarations) v
 
--- `put` adds an identifier's ordinal to the others; `all` are the module's declarations, and the
--- range begins at `low`
+-- `put` adds an identifier's ordinal to the others, and `all` has the module's declaring tokens.
+-- The range begins at the token `low`.
 module _ {M : Type 0} (put : ℕ → Option ℕ → M → M) (all : List ℕ) (low : ℕ) where
   abbrev mutual
-    -- a block: its sections, and then its statements or one of its procedures
+    -- visits a block: its sections, then its statements or one of its procedures
     pub renumber_block : Tree ℕ block → Visit M → Visit M
     renumber_block (has_body (declares cs ts vs ps) statements) v =
         renumber_procedures ps statements
         (visit_variable_section put vs (visit_type_section put ts (visit_constant_section put cs v)))
 
-    -- the first procedure that doesn't close before the range; if there is none, the statements
+    -- visits the first procedure that doesn't close before the range; if there is none, the
+    -- statements
     pub renumber_procedures : Tree ℕ (items procedure) → Tree ℕ (maybe body) → Visit M → Visit M
     renumber_procedures end statements v = used put statements v
     renumber_procedures (more p ps) statements v =
@@ -50,13 +51,13 @@ module _ {M : Type 0} (put : ℕ → Option ℕ → M → M) (all : List ℕ) (l
         (passed_over (procedure_name p) (caught_up all (procedure_name p) v))
         else renumber_procedure p (caught_up all (procedure_name p) v)
 
-    -- a procedure: its name, its parameters and its block
+    -- visits a procedure: its name, its parameters and its block
     pub renumber_procedure : Tree ℕ (item procedure) → Visit M → Visit M
     renumber_procedure (declares_procedure x fs b closing) v =
         renumber_block b (after_heading (length v.declarations) (length v.scope)
         (visit_formals put fs (numbered_at put x v)))
 
--- the state before the first identifier, with a table of ordinals
+-- returns the state before the first identifier, with a table of ordinals
 abbrev pub started_over : Writing → List (Option ℕ) → tabling.Visit
 started_over writing table =
     record {
@@ -67,6 +68,6 @@ started_over writing table =
       marks = table;
     }
 
--- the state after the body that contains a range of tokens
+-- returns the state after the body that contains the range of tokens
 abbrev pub module_renumbered : List ℕ → ℕ → Tree ℕ module_text → tabling.Visit → tabling.Visit
 module_renumbered all low (is_module x b closing) v = renumber_block tabling.put all low b v

@@ -1,5 +1,5 @@
--- A scope as it is stored: bindings, oldest first, each with the index of the binding that it
--- hides.
+-- Defines a scope as the code stores it: bindings, oldest first, each with the index of the binding
+-- that it hides.
 -- Rule: none; for contracts: a scope as it is stored.
 use Rattle.std.specs.Prelude.{◌≡◌, ℕ, List, [], ◌∷◌, Option, Some, None, if◌then◌else◌, map, length, reverse}
 use Rattle.ob0_scope_numbering.specs.declared.visible.Binding.{Binding}
@@ -8,42 +8,44 @@ use Rattle.ob0_scope_numbering.specs.NewestNames.{newest_in, place_of}
 use Rattle.ob0_language_names.specs.Names.{Name, same_name}
 use Rattle.ob0_language_names.specs.Scopes.{Scope}
 
--- the scope of some bindings, which are oldest first
+-- returns the scope of some bindings, which are oldest first
 abbrev pub scope_of : List Binding → Scope Name
 scope_of bindings = map (λ b. (b.name.now, b.ordinal)) (reverse bindings)
 
--- the index of a name's newest binding; the bindings here are newest first
+-- Returns the index of a name's newest binding, counted from the oldest one. The bindings are given
+-- newest first. None if the name has none.
 abbrev pub latest : Name → List Binding → Option ℕ
 latest x [] = None
 latest x (b ∷ bs) = if same_name x b.name.now then Some (length bs) else latest x bs
 
--- states that each binding has the index of the binding that it hides
+-- holds if each binding has the index of the binding that it hides
 abbrev pub AreHidden : List Binding → Type 0
 AreHidden [] = Unit {0}
 AreHidden (b ∷ bs) = (b.hidden ≡ latest b.name.now bs) × AreHidden bs
 
--- States that the list has the index of each name's newest binding.
+-- States that the list has the index of each name's newest binding, and that each binding has the
+-- index of the one that it hides.
 pub record IsNewest (newest : List BoundName) (bindings : List Binding) : Type 0 where
   pub found : (x : Name) → newest_in newest x ≡ latest x (reverse bindings)
   pub hidden : AreHidden (reverse bindings)
 
--- The names that are visible at a place, and the new name of a declaration.
+-- The names that are visible at a place, and the new name of a renamed declaration.
 pub record VisibleNames : Type 0 where
   pub new_name : Name
   pub scope : Scope Name
 
--- another scope with the same new name
+-- returns another scope with the same new name
 abbrev pub with_scope : VisibleNames → Scope Name → VisibleNames
 with_scope v scope = record { new_name = v.new_name; scope = scope }
 
--- states that each binding has the position of its name
+-- holds if each binding has the position of its name
 abbrev pub ArePlaced : List BoundName → List Binding → Type 0
 ArePlaced newest [] = Unit {0}
 ArePlaced newest (b ∷ bs) =
     (place_of newest b.name.now ≡ Some b.place) × ArePlaced newest bs
 
--- States that the list has the index of each name's newest binding, and that the new name has the
--- first position.
+-- States that the list has the index of each name's newest binding, and that each binding has its
+-- name's position. The new name has the first position.
 pub record IsKept (new : Name) (newest : List BoundName) (bindings : List Binding) : Type 0 where
   pub is : IsNewest newest bindings
   pub placed : ArePlaced newest bindings

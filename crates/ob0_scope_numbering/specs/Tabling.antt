@@ -1,4 +1,5 @@
--- The walk over a module's identifiers in text order, with a table of their ordinals by token.
+-- Defines the walk over a module's identifiers in text order, with a table of their ordinals by
+-- token (`Visiting`).
 -- Rule: none; for contracts of the walk over identifiers.
 use Rattle.std.specs.Prelude.{ℕ, List, [], Option, None, length, replicate, slice_set}
 use Rattle.ob0_tree.specs.declared.tree.Role.{Role}
@@ -15,119 +16,123 @@ use Rattle.ob0_scope_numbering.specs.Written.{Writing}
 abbrev pub Visit : Type 0
 Visit = visit.Visit (List (Option ℕ))
 
--- writes an ordinal at its token, as an entry holds it
+-- writes an ordinal into a table at its token, as an entry can hold it
 abbrev pub put : ℕ → Option ℕ → List (Option ℕ) → List (Option ℕ)
 put i ordinal table = slice_set table i (kept ordinal)
 
--- `marked` of `Visiting`, with a table by token
+-- returns the state after giving an identifier this ordinal, with a table by token
 abbrev pub marked : ℕ → Option ℕ → Visit → Visit
 marked = visit.marked put
 
--- `numbered_at` of `Visiting`, with a table by token
+-- returns the state after giving a declaring identifier the next ordinal, with a table by token
 abbrev pub numbered_at : ℕ → Visit → Visit
 numbered_at = visit.numbered_at put
 
--- `numbered_all` of `Visiting`, with a table by token
+-- returns the state after giving declaring identifiers the next ordinals, in order, with a table by
+-- token
 abbrev pub numbered_all : List ℕ → Visit → Visit
 numbered_all = visit.numbered_all put
 
--- `found` of `Visiting`, with a table by token
+-- returns the state after visiting an identifier of a part that declares nothing, with a table by
+-- token
 abbrev pub found : Role → ℕ → Visit → Visit
 found = visit.found put
 
--- `found_all` of `Visiting`, with a table by token
+-- returns the state after visiting the identifiers of a part that declares nothing, with a table by
+-- token
 abbrev pub found_all : List (Role × ℕ) → Visit → Visit
 found_all = visit.found_all put
 
--- `used` of `Visiting`, with a table by token
+-- returns the state after visiting a part that declares nothing, with a table by token
 abbrev pub used : {s : Sort} → Tree ℕ s → Visit → Visit
 used = visit.used put
 
--- `visit_constant` of `Visiting`, with a table by token
+-- returns the state after visiting the declaration of a constant, with a table by token
 abbrev pub visit_constant : Tree ℕ (item constant) → Visit → Visit
 visit_constant = visit.visit_constant put
 
--- `visit_constants` of `Visiting`, with a table by token
+-- returns the state after visiting declarations of constants, with a table by token
 abbrev pub visit_constants : Tree ℕ (items constant) → Visit → Visit
 visit_constants = visit.visit_constants put
 
--- `visit_type` of `Visiting`, with a table by token
+-- returns the state after visiting the declaration of a type, with a table by token
 abbrev pub visit_type : Tree ℕ (item type_name) → Visit → Visit
 visit_type = visit.visit_type put
 
--- `visit_types` of `Visiting`, with a table by token
+-- returns the state after visiting declarations of types, with a table by token
 abbrev pub visit_types : Tree ℕ (items type_name) → Visit → Visit
 visit_types = visit.visit_types put
 
--- `visit_variable` of `Visiting`, with a table by token
+-- returns the state after visiting the declaration of some variables, with a table by token
 abbrev pub visit_variable : Tree ℕ (item variable) → Visit → Visit
 visit_variable = visit.visit_variable put
 
--- `visit_variables` of `Visiting`, with a table by token
+-- returns the state after visiting declarations of variables, with a table by token
 abbrev pub visit_variables : Tree ℕ (items variable) → Visit → Visit
 visit_variables = visit.visit_variables put
 
--- `visit_section` of `Visiting`, with a table by token
+-- returns the state after visiting a section of parameters, with a table by token
 abbrev pub visit_section : Tree ℕ section → Visit → Visit
 visit_section = visit.visit_section put
 
--- `visit_sections` of `Visiting`, with a table by token
+-- returns the state after visiting the further sections of parameters, with a table by token
 abbrev pub visit_sections : Tree ℕ (items further_section) → Visit → Visit
 visit_sections = visit.visit_sections put
 
--- `visit_formals` of `Visiting`, with a table by token
+-- returns the state after visiting the parameters of a heading, with a table by token
 abbrev pub visit_formals : Tree ℕ (maybe formals) → Visit → Visit
 visit_formals = visit.visit_formals put
 
--- `visit_constant_section` of `Visiting`, with a table by token
+-- returns the state after visiting the section of constants, if there is one, with a table by token
 abbrev pub visit_constant_section : Tree ℕ (maybe constants) → Visit → Visit
 visit_constant_section = visit.visit_constant_section put
 
--- `visit_type_section` of `Visiting`, with a table by token
+-- returns the state after visiting the section of types, if there is one, with a table by token
 abbrev pub visit_type_section : Tree ℕ (maybe type_names) → Visit → Visit
 visit_type_section = visit.visit_type_section put
 
--- `visit_variable_section` of `Visiting`, with a table by token
+-- returns the state after visiting the section of variables, if there is one, with a table by token
 abbrev pub visit_variable_section : Tree ℕ (maybe variables) → Visit → Visit
 visit_variable_section = visit.visit_variable_section put
 
--- `visit_block` of `Visiting`, with a table by token
+-- returns the state after visiting a block, with a table by token
 abbrev pub visit_block : Tree ℕ block → Visit → Visit
 visit_block = visit.visit_block put
 
--- `visit_procedures` of `Visiting`, with a table by token
+-- returns the state after visiting the procedures of a block, with a table by token
 abbrev pub visit_procedures : Tree ℕ (items procedure) → Visit → Visit
 visit_procedures = visit.visit_procedures put
 
--- `visit_procedure` of `Visiting`, with a table by token
+-- returns the state after visiting a procedure, with a table by token
 abbrev pub visit_procedure : Tree ℕ (item procedure) → Visit → Visit
 visit_procedure = visit.visit_procedure put
 
--- `visit_module` of `Visiting`, with a table by token
+-- returns the state after visiting a module, with a table by token
 abbrev pub visit_module : Tree ℕ module_text → Visit → Visit
 visit_module = visit.visit_module put
 
--- `visible` of `Visiting`, with a table by token
+-- returns the state after making the name of a declaration visible, with a table by token
 abbrev pub visible : ℕ → ℕ → Visit → Visit
 visible = visit.visible
 
--- `visible_from` of `Visiting`, with a table by token
+-- returns the state after making the names of declarations visible, starting at one of them, with a
+-- table by token
 abbrev pub visible_from : ℕ → Visit → Visit
 visible_from = visit.visible_from
 
--- `left_to` of `Visiting`, with a table by token
+-- returns the state after dropping all bindings except the oldest ones, with a table by token
 abbrev pub left_to : ℕ → Visit → Visit
 left_to = visit.left_to
 
--- `after_heading` of `Visiting`, with a table by token
+-- returns the state after the heading of a procedure, with a table by token
 abbrev pub after_heading : ℕ → ℕ → Visit → Visit
 after_heading = visit.after_heading
 
--- `leave_block` of `Visiting`, with a table by token
+-- returns the state after the block of a procedure, with a table by token
 abbrev pub leave_block : ℕ → ℕ → ℕ → Visit → Visit
 leave_block = visit.leave_block
 
--- the state before the first identifier
+-- returns the state before the first identifier
 abbrev pub started : Writing → Visit
 started writing =
     record {
@@ -138,7 +143,7 @@ started writing =
       marks = replicate (length writing.source.tokens) None;
     }
 
--- the state of the walk with a table that has the marks, instead of their list
+-- returns the same state with a table that has the marks, instead of their list
 abbrev pub tabled : List (Option ℕ) → marking.Visit → Visit
 tabled table v =
     record {
@@ -149,7 +154,7 @@ tabled table v =
       marks = with_marks table v.marks;
     }
 
--- the state after a module, with the table of its marks
+-- returns the state after a module, with the table of its marks
 abbrev pub module_numbered : Tree ℕ module_text → Writing → Visit
 module_numbered m writing =
     tabled (replicate (length writing.source.tokens) None)

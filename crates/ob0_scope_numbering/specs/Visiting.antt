@@ -1,5 +1,5 @@
--- The walk over a module's identifiers in text order: the state after each part, however the
--- ordinals are kept.
+-- Defines the walk over a module's identifiers in text order: the state after each part, however
+-- the ordinals are kept.
 -- Rule: none; for contracts of the walk over identifiers.
 use Rattle.std.specs.Prelude.{ℕ, ◌+◌, ◌-◌, List, [], ◌∷◌, ◌++◌, Option, Some, None, map, length, drop}
 use Rattle.ob0_tree.specs.declared.tree.Role.{Role}
@@ -24,7 +24,7 @@ pub record Visit (M : Type 0) : Type 0 where
 abbrev pub visible : {M : Type 0} → ℕ → ℕ → Visit M → Visit M
 visible i ordinal v = record v { scope = (name_at v.writing i, ordinal) ∷ v.scope }
 
--- makes the names of the declarations visible, starting at this one
+-- makes the names of the declarations visible, starting at the one with this index
 abbrev pub visible_from : {M : Type 0} → ℕ → Visit M → Visit M
 visible_from first v =
     record v {
@@ -36,12 +36,13 @@ visible_from first v =
 abbrev pub left_to : {M : Type 0} → ℕ → Visit M → Visit M
 left_to len v = record v { scope = drop (length v.scope - len) v.scope }
 
--- The state after a heading. The parameters are visible in the heading without the procedure, and
--- after it with the procedure below them.
+-- Returns the state after the heading of a procedure. The parameters are visible in the heading
+-- without the procedure, and after it with the procedure below them.
 abbrev pub after_heading : {M : Type 0} → ℕ → ℕ → Visit M → Visit M
 after_heading own outside v = visible_from own (left_to outside v)
 
--- the state after a procedure's block, in which only the procedure is visible
+-- Returns the state after the block of a procedure. The bindings of the block are dropped, and the
+-- procedure is visible.
 abbrev pub leave_block : {M : Type 0} → ℕ → ℕ → ℕ → Visit M → Visit M
 leave_block x ordinal outside v = visible x ordinal (left_to outside v)
 
@@ -63,7 +64,7 @@ module _ {M : Type 0} (put : ℕ → Option ℕ → M → M) where
   numbered_all [] v = v
   numbered_all (i ∷ is) v = numbered_all is (numbered_at i v)
 
-  -- an identifier in a part that declares nothing
+  -- visits an identifier in a part that declares nothing
   abbrev pub found : Role → ℕ → Visit M → Visit M
   found role.LookedUp i v =
       record v {
@@ -78,11 +79,11 @@ module _ {M : Type 0} (put : ℕ → Option ℕ → M → M) where
   abbrev pub found_all : List (Role × ℕ) → Visit M → Visit M
   found_all xs v = visited_all found xs v
 
-  -- a part that declares nothing
+  -- visits a part that declares nothing
   abbrev pub used : {s : Sort} → Tree ℕ s → Visit M → Visit M
   used t v = visited found t v
 
-  -- declarations, whose names are visible after them
+  -- visits declarations, whose names are visible after them
   abbrev pub visit_constant : Tree ℕ (item constant) → Visit M → Visit M
   visit_constant (declares_constant x e) v =
       visible_from (length v.declarations) (used e (numbered_at x v))
@@ -134,18 +135,18 @@ module _ {M : Type 0} (put : ℕ → Option ℕ → M → M) where
   visit_variable_section (one (declares_variables vs)) v = visit_variables vs v
 
   abbrev mutual
-    -- a block: its sections, its procedures and its statements, in text order
+    -- visits a block: its sections, its procedures and its statements, in text order
     pub visit_block : Tree ℕ block → Visit M → Visit M
     visit_block (has_body (declares cs ts vs ps) statements) v =
         used statements (visit_procedures ps
         (visit_variable_section vs (visit_type_section ts (visit_constant_section cs v))))
 
-    -- the procedures of a block, in order
+    -- visits the procedures of a block, in order
     pub visit_procedures : Tree ℕ (items procedure) → Visit M → Visit M
     visit_procedures end v = v
     visit_procedures (more p ps) v = visit_procedures ps (visit_procedure p v)
 
-    -- a procedure: its name, its parameters, its block and its closing name
+    -- visits a procedure: its name, its parameters, its block and its closing name
     pub visit_procedure : Tree ℕ (item procedure) → Visit M → Visit M
     visit_procedure (declares_procedure x fs b closing) v =
         marked closing (Some (predeclared_count + length v.declarations))

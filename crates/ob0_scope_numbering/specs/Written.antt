@@ -1,4 +1,4 @@
--- The spellings of identifiers: as in the text, or a new name for the identifiers of one
+-- Defines the spellings of identifiers: as in the text, or a new name for the identifiers of one
 -- declaration.
 -- Rule: none; for contracts: identifiers as they are written.
 use Rattle.std.specs.Prelude.{ℕ, Bool, false, if◌then◌else◌, List, [], Option, Some, None}
@@ -9,8 +9,8 @@ use Rattle.ob0_language_names.specs.Names.{Name}
 use Rattle.ob0_scope_table.specs.Resolution.{ordinal_in}
 use Rattle.ob0_language_names.specs.Scopes.{same_ordinal}
 
--- A text with the ordinals of its identifiers by token, the ordinal of the renamed declaration, if
--- there is one, and its new name.
+-- A text with the ordinals of its identifiers by token. `declaration` is the ordinal of the renamed
+-- declaration, if one is renamed, and `new` its new name.
 pub record Writing : Type 0 where
   pub source : Scanned
   pub ordinals : List (Option ℕ)
@@ -22,15 +22,15 @@ abbrev pub is_renamed : Option ℕ → Option ℕ → Bool
 is_renamed None ordinal = false
 is_renamed (Some d) ordinal = same_ordinal ordinal d
 
--- the spelling of a token
+-- returns the spelling of a token
 abbrev pub name_at : Writing → ℕ → Name
 name_at w i =
     if is_renamed w.declaration (ordinal_in w.ordinals i) then w.new else text_at w.source i
 
--- the spellings of the text
+-- returns the spellings of the text, without a new name
 abbrev pub as_in : Scanned → Writing
 as_in source = record { source = source; ordinals = []; declaration = None; new = [] }
 
--- a tree over indexes of tokens, with the spellings in place of the indexes
+-- returns a tree over indexes of tokens, with the spellings in place of the indexes
 abbrev pub spelled_by : {s : Sort} → Writing → Tree ℕ s → Tree Name s
 spelled_by w t = mapped (name_at w) (value_at w.source) t

@@ -1,13 +1,17 @@
-//! The newest binding of each name.
+//! Finds the newest binding of each name.
 //!
 //! Each name that was ever bound is in a list with its newest binding, and a map has its position
 //! in that list. A name keeps its position, so hiding and removing a binding change only the list
-//! and allocate nothing. A binding has its name's position, so no text is read when it is removed.
-//! A key is a name preceded by a number made of its last eight bytes. Nearly all comparisons are
-//! between two numbers; if these are equal, the names decide, so no text can make a look-up slow.
-//! Before the map, a small table is searched, by a few bytes of the name, for the position that
-//! such a name had last. Its content is only a hint, which is compared with the name, so nothing
-//! has to be proved about it.
+//! and allocate nothing. A binding has its name's position, so no text is read when the binding is
+//! removed.
+//!
+//! A key of the map is a name preceded by a number made of its last eight bytes. Nearly all
+//! comparisons are between two numbers. If these are equal, the names decide, so no text can make a
+//! look-up slow.
+//!
+//! Before the map, a small table is searched by a few bytes of the name. It has the position that
+//! such a name had last. That position is only a hint, which is compared with the name, so the
+//! proof needs no fact about the table.
 
 ghost use Rattle.std.specs.Prelude.{◌≡◌, [], IfOk, IfSome, OnErr, OnOk, None, Some};
 ghost use Rattle.ob0_scope_numbering.specs.Keys.{number_of, with_byte, with_bytes};
@@ -18,10 +22,11 @@ use std::alloc::{AllocError, Global};
 use std::collections::BTreeMap;
 use std::marker::Model;
 
-/// The number of names that can be found without the map, a power of two.
+/// The number of slots of the table of recent names, a power of two.
 const RECENT: usize = 1024;
 
-/// A name as a key. The number before it is made of its last bytes, which distinguish most names.
+/// A name as a key of the map. The number before the name is made of its last bytes, which
+/// distinguish most names.
 type Key<'t> = (u64, &'t str);
 
 /// Returns the key of a name.
@@ -31,15 +36,15 @@ fn key_of<'t>(name: &'t str) -> (u64, &'t str)
     (number_of(name.as_bytes()), name)
 }
 
-/// Returns the number before a name, made of its last eight bytes. So a long name costs no more
-/// than a short one.
+/// Returns the number before a name, made of its last eight bytes. A long name costs no more than a
+/// short one.
 fn number_of(bytes: &[u8]) -> u64
     ensures { result ≡ number_of bytes.now }
 {
     number_of_all(&bytes[bytes.len().saturating_sub(8)..])
 }
 
-/// Returns the number whose digits are some bytes.
+/// Returns the number whose digits are these bytes.
 fn number_of_all(bytes: &[u8]) -> u64
     ensures { result ≡ with_bytes bytes.now 0 }
 {
@@ -57,8 +62,8 @@ fn with_byte(number: u64, byte: u8) -> u64
     number.wrapping_mul(256).wrapping_add(u64::from(byte))
 }
 
-/// Returns a few bytes of a name side by side, enough to distinguish most names: of a long one, the
-/// first and the last three.
+/// Returns the length of a name and a few of its bytes in one number, enough to distinguish most
+/// names. If the name has four bytes or more, these are the first byte and the last three.
 fn sketch(name: &str) -> u64 {
     let bytes = name.as_bytes();
     let len = bytes.len();
@@ -74,18 +79,19 @@ fn sketch(name: &str) -> u64 {
     ends << 16 | u64::from(bytes[len - 2]) << 8 | u64::from(bytes[len - 3])
 }
 
-/// Returns the slot of a name in the table of recent names. The first bits of the product depend on
-/// all bits of the sketch.
+/// Returns the slot of a name in the table of recent names. The slot is made of the first bits of a
+/// product, which depend on all bits of the sketch.
 fn slot_of(name: &str) -> usize {
     (sketch(name).wrapping_mul(0x9E37_79B9_7F4A_7C15) >> 54) as usize
 }
 
-/// Makes the table of recent names. An entry counts only if the name is at its position.
+/// Returns an empty table of recent names. An entry of that table counts only if the name is at its
+/// position.
 fn no_recent(alloc: Global) -> Result<Vec<usize>, AllocError> {
     vec![in alloc; 0; RECENT]
 }
 
-/// A name that was bound, with the index of its newest binding, if it has one.
+/// A name that was bound, with the index of its newest binding, if it still has one.
 #[derive(Clone, Copy)]
 pub(crate) struct BoundName<'t> {
     name: &'t str,
@@ -94,7 +100,7 @@ pub(crate) struct BoundName<'t> {
 
 /// The names that were bound so far, each once, in the order in which they were first bound. A
 /// name's position is found in logarithmic time, whatever the names are. A name that was looked up
-/// before is usually found at once.
+/// recently is usually found at once.
 #[derive(Drop)]
 pub(crate) struct Newest<'t> {
     entries: Vec<BoundName<'t>>,
@@ -115,8 +121,8 @@ impl<'t> Model for Newest<'t> {
 }
 
 impl<'t> Newest<'t> {
-    /// Makes an empty list of bindings. The name `first` has the first position, at which it is
-    /// found without reading its text.
+    /// Returns a list in which the name `first` has the first position and no name has a binding.
+    /// The name `first` is found there without reading its text.
     pub(crate) fn new(alloc: Global, first: &'t str) -> Result<Newest<'t>, AllocError>
         ensures none { IfOk result (λ t. (x : Name) → newest_in t x ≡ None) }
         ensures first { IfOk result (λ t. place_of t first.now ≡ Some 0) }
@@ -136,7 +142,8 @@ impl<'t> Newest<'t> {
         })
     }
 
-    /// Returns the index of the newest binding of the name at the first position.
+    /// Returns the index of the newest binding of the name at the first position. None if it has
+    /// none.
     pub(crate) fn first(&self) -> Option<usize>
         ensures { (x : Name) → place_of self.now x ≡ Some 0 → result ≡ newest_in self.now x }
     {
@@ -146,7 +153,7 @@ impl<'t> Newest<'t> {
         self.entries[0].newest
     }
 
-    /// Returns the position of a name if this slot has it.
+    /// Returns the position of a name if this slot of the recent names has it. Otherwise None.
     #[inline(always)]
     fn find_entry(&self, slot: usize, name: &'t str) -> Option<usize>
         ensures { IfSome result (λ place. place_of self.now name.now ≡ Some place) }
@@ -162,7 +169,7 @@ impl<'t> Newest<'t> {
         }
     }
 
-    /// Enters the position of a name in a slot.
+    /// Enters the position of a name in a slot of the recent names.
     fn remember(&mut self, slot: usize, place: usize)
         ensures { self.new ≡ self.old }
     {
@@ -171,7 +178,7 @@ impl<'t> Newest<'t> {
         }
     }
 
-    /// Returns the position of a name.
+    /// Returns the position of a name. None if the name isn't in the list.
     #[inline(always)]
     fn find(&mut self, name: &'t str) -> Option<usize>
         ensures found { result ≡ place_of self.old name.now }
@@ -184,7 +191,8 @@ impl<'t> Newest<'t> {
         }
     }
 
-    /// Looks up the position of a name in the map, and remembers it for the next look-up.
+    /// Looks up the position of a name in the map, and remembers it for the next look-up. None if
+    /// the name isn't in the list.
     #[cold]
     fn find_by_map(&mut self, slot: usize, name: &'t str) -> Option<usize>
         ensures found { result ≡ place_of self.old name.now }
@@ -198,7 +206,8 @@ impl<'t> Newest<'t> {
         Some(place)
     }
 
-    /// Adds a name that isn't in the list. It has no binding yet.
+    /// Adds a name that isn't in the list. It has no binding yet. If an allocation fails, the list
+    /// is unchanged.
     fn add(&mut self, name: &'t str) -> Result<(), AllocError>
         requires { place_of self.old name.now ≡ None }
         ensures added { OnOk result (IsAdded self.old self.new name.now) }
@@ -211,7 +220,8 @@ impl<'t> Newest<'t> {
         Ok(())
     }
 
-    /// Returns the position of a name, which is added if it has none.
+    /// Returns the position of a name, which is added if it has none. If an allocation fails, the
+    /// list is unchanged.
     pub(crate) fn place(&mut self, name: &'t str) -> Result<usize, AllocError>
         ensures placed { IfOk result (λ place. place_of self.new name.now ≡ Some place) }
         ensures places { OnOk result (KeepsPlaces self.old self.new) }
@@ -227,7 +237,7 @@ impl<'t> Newest<'t> {
         Ok(place)
     }
 
-    /// Returns the index of the newest binding of the name at a position.
+    /// Returns the index of the newest binding of the name at a position. None if it has none.
     pub(crate) fn newest_at(&self, place: usize, name: &'t str) -> Option<usize>
         requires { place_of self.now name.now ≡ Some place }
         ensures { result ≡ newest_in self.now name.now }
@@ -235,7 +245,7 @@ impl<'t> Newest<'t> {
         self.entries[place].newest
     }
 
-    /// Sets the newest binding of the name at a position.
+    /// Sets the newest binding of the name at a position, which may be None.
     pub(crate) fn renew(&mut self, place: usize, name: &'t str, newest: Option<usize>)
         requires { place_of self.old name.now ≡ Some place }
         ensures renewed { IsRenewed self.old self.new name.now newest }
@@ -244,7 +254,7 @@ impl<'t> Newest<'t> {
         self.entries[place] = BoundName { name, newest };
     }
 
-    /// Returns the index of a name's newest binding.
+    /// Returns the index of a name's newest binding. None if it has none.
     pub(crate) fn get(&mut self, name: &'t str) -> Option<usize>
         ensures found { result ≡ newest_in self.old name.now }
         ensures same { self.new ≡ self.old }

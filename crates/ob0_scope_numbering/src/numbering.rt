@@ -1,24 +1,24 @@
 //! Visits the declarations of a module in text order, and gives each identifier the ordinal of its
 //! declaration.
 //!
-//! Expressions, types and statements declare nothing. They are visited by the walk of `ob0_tree`,
-//! for which `Numbering` is a `Visitor`. A clause is an equation between whole states: `self.new ≡
+//! Expressions, types and statements declare nothing. The walk of `ob0_tree` visits them, for which
+//! `Numbering` is a `Visitor`. A clause is an equation between whole states: `self.new ≡
 //! visit_constant c self.old`. With such clauses most descents and loops over declarations need no
 //! proof file.
 //!
-//! Names become visible in the order of their ordinals (`show_from`). That serves constants,
+//! Names become visible in the order of their ordinals (`show_from`). This works for constants,
 //! groups, and a procedure's heading. After a heading the scope is cut back. Then `show_from` shows
 //! the procedure and its parameters, so that the procedure is below them.
 //!
 //! Each identifier's ordinal is written into the table at its token as soon as it is known, even
 //! for fields and the module's name. The definition of the walk (`Visiting`) leaves open how
-//! ordinals are kept: `Tabling` has the table, like the code, and `Marking` a list of marks (token,
+//! ordinals are kept. `Tabling` has the table, like the code, and `Marking` a list of marks (token,
 //! ordinal). The contract says that the table results from entering the marks in an empty table. So
 //! all other proofs are about the marks, whose tokens ascend.
 //!
-//! An entry of the table has 32 bits (`OrdinalEntry`). An ordinal above the greatest counts as the
-//! greatest, so no function of the walk needs a bound. A text has no more tokens than bytes, and
-//! each declaration has a different token, so entries can hold the ordinals of all marks.
+//! An entry of the table has 32 bits (`OrdinalEntry`). An ordinal above the greatest one counts as
+//! the greatest, so no function of the walk needs a bound. A text has no more tokens than bytes,
+//! and each declaration has a different token. So entries can hold the ordinals of all marks.
 
 ghost use Rattle.std.specs.Prelude.{◌≡◌, ◌+◌, ◌<◌, ◌^◌, [], OnOk, IfOk, length, Some, None};
 ghost use Rattle.ob0_tree.specs.declared.tree.Role.TheVariants as roles;
@@ -44,8 +44,8 @@ use ob0_tree::{
 use std::alloc::{AllocError, Global};
 use std::marker::Model;
 
-/// The state in the middle of a module. The table has the ordinal of each identifier so far at its
-/// token.
+/// The state of the walk inside a module. The table has the ordinal of each identifier so far at
+/// its token.
 #[derive(Drop)]
 pub struct Numbering<'t> {
     tokens: &'t Tokens,
@@ -76,7 +76,7 @@ impl<'t> Model for Numbering<'t> {
     } };
 }
 
-/// Handles the identifiers in the parts that declare nothing.
+/// Visits the identifiers in the parts that declare nothing.
 impl<'t> Visitor for Numbering<'t> {
     ghost use Rattle.ob0_scope_numbering.specs.Tabling.{found};
 
@@ -94,7 +94,7 @@ impl<'t> Visitor for Numbering<'t> {
     }
 }
 
-/// Returns the ordinal of a declaration from its index among the declarations of the text.
+/// Returns the ordinal of the declaration with this index among the declarations of the text.
 fn ordinal_at_index(index: usize) -> usize
     requires { index < 2 ^ 63 }
     ensures { result ≡ predeclared_count + index }
@@ -102,7 +102,7 @@ fn ordinal_at_index(index: usize) -> usize
     PREDECLARED + index
 }
 
-/// Returns the scope with the predeclared names, and with the new name of a declaration.
+/// Returns the scope with the predeclared names, and with the new name of a renamed declaration.
 fn predeclared_names<'t>(alloc: Global, new: &'t str) -> Result<Visible<'t>, AllocError>
     ensures { IfOk result
         (λ v. v ≡ record { new_name = new.entry.now; scope = predeclared_scope as_names }) }
@@ -127,7 +127,7 @@ fn declare_predeclared(visible: &mut Visible<'_>) -> Result<(), AllocError>
     Ok(())
 }
 
-/// Visits a module whose identifiers have these spellings.
+/// Visits a module whose identifiers have these spellings, and returns the state after it.
 fn visit_module<'t>(
     alloc: Global,
     read: &'t Module<'t>,
@@ -151,8 +151,9 @@ fn visit_module<'t>(
     Ok(numbering)
 }
 
-/// Numbers the body that contains a range of tokens again, in a table that has the numbers of
-/// everything else. `all` are the module's declarations, and the range begins at the token `low`.
+/// Numbers the body that contains a range of tokens again, and returns the table. The table must
+/// have the ordinals of everything else. `all` has the module's declaring tokens, and the range
+/// begins at the token `low`.
 pub fn number_body(
     alloc: Global,
     read: &Module<'_>,
@@ -178,8 +179,8 @@ pub fn number_body(
     Ok(ordinals)
 }
 
-/// Numbers a module whose identifiers have these spellings. The table can hold every ordinal,
-/// because a text has no more declarations than bytes.
+/// Numbers a module whose identifiers have these spellings, and returns the state after it. The
+/// table can hold every ordinal, because a text has no more declarations than bytes.
 pub fn number<'t>(
     alloc: Global,
     read: &'t Module<'t>,
@@ -193,7 +194,7 @@ pub fn number<'t>(
 }
 
 impl<'t> Numbering<'t> {
-    /// Returns the declaring tokens, the tokens of the occurrences, and the table.
+    /// Returns the declaring tokens, the tokens of the occurrences, and the table of ordinals.
     pub fn into_parts(self) -> (Vec<usize>, Vec<usize>, Vec<OrdinalEntry>)
         ensures declarations { result.0.items ≡ self.entry.declarations }
         ensures uses { result.1.items ≡ self.entry.uses }
@@ -233,7 +234,7 @@ impl<'t> Numbering<'t> {
         }
     }
 
-    /// Gives a declaring name the next ordinal.
+    /// Gives a declaring name the next ordinal, and returns the ordinal.
     fn number(&mut self, token: usize) -> Result<usize, AllocError>
         ensures next { IfOk result (λ ordinal. ordinal ≡ predeclared_count + length self.old.declarations) }
         ensures numbered { OnOk result (self.new ≡ numbered_at token self.old) }
@@ -255,7 +256,7 @@ impl<'t> Numbering<'t> {
         }
     }
 
-    /// Makes the names of the declarations visible, starting at this one.
+    /// Makes the names of the declarations visible, starting at the one with this index.
     fn show_from(&mut self, first: usize) -> Result<(), AllocError>
         ensures { OnOk result (self.new ≡ visible_from first self.old) }
     {
@@ -273,7 +274,7 @@ impl<'t> Numbering<'t> {
         self.visible.leave_to(len);
     }
 
-    /// True if an identifier has the new name.
+    /// Returns true if an identifier has the new name.
     fn is_renamed(&self, token: usize) -> bool
         ensures { result
             ≡ is_renamed self.now.writing.declaration (ordinal_in self.now.writing.ordinals token) }
@@ -281,7 +282,8 @@ impl<'t> Numbering<'t> {
         is_renamed(self.declaration, ordinal_at(self.ordinals, token))
     }
 
-    /// Returns the ordinal of the declaration to which the name at a token is bound.
+    /// Returns the ordinal of the declaration to which the name at a token is bound. None if it is
+    /// unbound.
     fn ordinal_bound(&mut self, token: usize) -> Option<usize>
         ensures found { result
             ≡ ordinal_of as_names self.old.scope (name_at self.old.writing token) }
@@ -294,7 +296,7 @@ impl<'t> Numbering<'t> {
         }
     }
 
-    /// Marks an identifier that is unbound.
+    /// Marks an identifier as unbound.
     #[inline(always)]
     fn pass(&mut self, token: usize) -> Result<(), AllocError>
         ensures { OnOk result (self.new ≡ marked token None self.old) }
@@ -303,7 +305,7 @@ impl<'t> Numbering<'t> {
         Ok(())
     }
 
-    /// Looks up a name.
+    /// Looks up a name, and marks it with the ordinal of its declaration or as unbound.
     #[inline(always)]
     fn look_up(&mut self, token: usize) -> Result<(), AllocError>
         ensures { OnOk result (self.new ≡ found roles.LookedUp token self.old) }
@@ -438,7 +440,7 @@ impl<'t> Numbering<'t> {
         body(self, &b.body)
     }
 
-    /// Counts the module's declarations up to a token.
+    /// Counts the module's declarations before a token, without visiting them.
     fn catch_up(&mut self, all: &[usize], token: usize) -> Result<(), AllocError>
         ensures { OnOk result (self.new ≡ caught_up all.now token self.old) }
     {
@@ -452,7 +454,7 @@ impl<'t> Numbering<'t> {
         Ok(())
     }
 
-    /// Counts a declaration.
+    /// Counts a declaration, without visiting it.
     fn count(&mut self, token: usize) -> Result<(), AllocError>
         ensures { OnOk result (self.new ≡ counted token self.old) }
     {

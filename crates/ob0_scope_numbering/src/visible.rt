@@ -1,4 +1,4 @@
-//! The names that are visible at a place of a module.
+//! Keeps the names that are visible at a place of a module.
 
 ghost use Rattle.std.specs.Prelude.{◌≡◌, [], ◌∷◌, OnErr, OnOk, IfOk, length, drop, ◌-◌};
 ghost use Rattle.ob0_scope_numbering.specs.Shadowing.{with_scope};
@@ -18,9 +18,9 @@ pub(crate) struct Binding<'t> {
     hidden: Option<usize>,
 }
 
-/// The bindings at a place, oldest first, and the new name of a declaration. Each name has the
-/// index of its newest binding. The new name may be far longer than the names of the text, so its
-/// binding is found without reading it.
+/// The bindings at a place, oldest first, and the new name of a renamed declaration. Each name has
+/// the index of its newest binding. The new name may be far longer than the names of the text, so
+/// its binding is found without reading it.
 #[derive(Drop)]
 pub(crate) struct Visible<'t> {
     new_name: &'t str,
@@ -39,7 +39,7 @@ impl<'t> Model for Visible<'t> {
 }
 
 impl<'t> Visible<'t> {
-    /// Makes an empty scope.
+    /// Returns an empty scope with this new name.
     pub(crate) fn new(alloc: Global, new_name: &'t str) -> Result<Visible<'t>, AllocError>
         ensures { IfOk result (λ v. v ≡ record { new_name = new_name.entry.now; scope = [] }) }
     {
@@ -57,7 +57,7 @@ impl<'t> Visible<'t> {
         self.bindings.len()
     }
 
-    /// Returns the ordinal of the declaration to which a name is bound.
+    /// Returns the ordinal of the declaration to which a name is bound. None if it is unbound.
     pub(crate) fn look_up(&mut self, name: &'t str) -> Option<usize>
         ensures found { result ≡ ordinal_of as_names self.old.scope name.now }
         ensures same { self.new ≡ self.old }
@@ -69,7 +69,8 @@ impl<'t> Visible<'t> {
         Some(self.bindings[index].ordinal)
     }
 
-    /// Returns the ordinal of the declaration to which the new name is bound.
+    /// Returns the ordinal of the declaration to which the new name is bound. None if it is
+    /// unbound.
     pub(crate) fn look_up_new(&self) -> Option<usize>
         ensures { result ≡ ordinal_of as_names self.now.scope self.now.new_name }
     {
@@ -80,7 +81,8 @@ impl<'t> Visible<'t> {
         Some(self.bindings[index].ordinal)
     }
 
-    /// Binds the new name.
+    /// Binds the new name, and hides its earlier binding. If an allocation fails, the scope is
+    /// unchanged.
     pub(crate) fn declare_new(&mut self, ordinal: usize) -> Result<(), AllocError>
         ensures bound { OnOk result
             (self.new ≡ with_scope self.old ((self.old.new_name, ordinal) ∷ self.old.scope)) }
@@ -108,7 +110,7 @@ impl<'t> Visible<'t> {
         Ok(())
     }
 
-    /// Drops the newest bindings until `len` are left.
+    /// Drops the newest bindings until `len` bindings are left.
     pub(crate) fn leave_to(&mut self, len: usize)
         ensures { self.new
             ≡ with_scope self.old (drop (length self.old.scope - len) self.old.scope) }
@@ -118,7 +120,7 @@ impl<'t> Visible<'t> {
         }
     }
 
-    /// Removes the newest binding, so that the binding it hid is visible again.
+    /// Removes the newest binding, so that the binding that it hid is visible again.
     fn leave(&mut self)
         ensures { self.new ≡ with_scope self.old (drop 1 self.old.scope) }
     {

@@ -1,6 +1,6 @@
-//! The spellings of a text's identifiers.
+//! Returns the spellings of a text's identifiers, with a new name for one declaration.
 //!
-//! An identifier has the spelling of the text, or the new name if the table gives it the ordinal of
+//! An identifier has its spelling in the text, or the new name if the table gives it the ordinal of
 //! the renamed declaration. So the same walk gives the numbered tree of the renamed module.
 
 ghost use Rattle.std.specs.Prelude.{◌≡◌};
@@ -32,7 +32,7 @@ impl<'t> Model for Writing<'t> {
     } };
 }
 
-/// True if an identifier with this ordinal has the new name.
+/// Returns true if an identifier with this ordinal has the new name.
 pub(crate) fn is_renamed(declaration: Option<usize>, ordinal: Option<usize>) -> bool
     ensures { result ≡ is_renamed declaration ordinal }
 {

@@ -1,5 +1,5 @@
--- The tokens of a module's names and numbers outside one body are before or after the range of
--- tokens that the body contains. The reason is that they ascend, and that the body's first
+-- Proves that the tokens of a module's names and numbers outside one body are before or after the
+-- range of tokens that the body contains. The reason is that they ascend, and that the body's first
 -- identifier isn't after the start of the range.
 use Rattle.std.proofs.Common.{◌≡◌, ◌<◌, ◌≤◌, ℕ, zero, ◌+◌, Bool, true, false, ◌&&◌, ◌||◌, nat_le, nat_lt, if◌then◌else◌, List, [], ◌∷◌, ◌++◌, refl, sym, ap, ◌∙◌, subst, arith, append_assoc, le_refl, lt-ltb, le-leb, leb-true, ltb-true}
 use Rattle.std.proofs.lemmas.Bool.{and_parts, or_left, or_right}
@@ -27,12 +27,12 @@ split low (x ∷ xs) ys high h =
     let s = split (x + 1) xs ys high h.1 in
     record { middle = s.middle; first = (h.0, s.first); last = s.last }
 
--- states that the first number isn't above a number
+-- holds if there is a first number and it isn't above `low`
 abbrev Begins : ℕ → List ℕ → Type 0
 Begins low [] = ⊥
 Begins low (x ∷ xs) = x ≤ low
 
--- the numbers before such numbers
+-- If the first of some ascending numbers isn't above `low`, the lower bound isn't either.
 before_first : (least low : ℕ) (xs : List ℕ) (high : ℕ) → Ascending least xs high → Begins low xs → least ≤ low
 before_first least low [] high h b = absurd b
 before_first least low (x ∷ xs) high h b = omega (arith, h.0, b)
@@ -49,7 +49,7 @@ begins_then : (low : ℕ) (xs ys : List ℕ) → Begins low xs → Begins low (x
 begins_then low [] ys b = absurd b
 begins_then low (x ∷ xs) ys b = b
 
--- the last number
+-- The last of some ascending numbers isn't below the lower bound.
 last_above : (least : ℕ) (xs : List ℕ) (c high : ℕ) → Ascending least (xs ++ (c ∷ [])) high → least ≤ c
 last_above least [] c high h = h.0
 last_above least (x ∷ xs) c high h = let le = last_above (x + 1) xs c high h.1 in omega (arith, h.0, le)
@@ -58,7 +58,7 @@ last_below : (least : ℕ) (xs : List ℕ) (c high : ℕ) → Ascending least (x
 last_below least [] c high h = omega (arith, h.1)
 last_below least (x ∷ xs) c high h = last_below (x + 1) xs c high h.1
 
--- the first identifier, and the first name or number
+-- Translates the test `begins_by` into `Begins`: the first identifier's token isn't after `low`.
 begins_names : (low : ℕ) (xs : List (Role × ℕ)) → begins_by low xs ≡ true → Begins low (names_only xs)
 begins_names low [] e = absurd (cc)
 begins_names low (x ∷ xs) e = leb-true x.1 low e
@@ -75,8 +75,8 @@ begins_terminals least low (EndOfText ∷ xs) high h b = begins_terminals least 
 -- ---- the tokens of a block without a body
 
 module _ (P : ℕ → Type 0) where
-  -- states a property of the tokens of a block's procedures and statements, without those to which
-  -- a way leads
+  -- holds if the tokens of a block's procedures and statements have property P, without those to
+  -- which a way leads
   abbrev pub Among : Way → Tree ℕ (items procedure) → Tree ℕ (maybe body) → Type 0
   Among [] ps statements = EachToken P ps
   Among (k ∷ way) ps statements = EachToken P (procedures_without k way ps) × EachToken P statements
@@ -107,18 +107,18 @@ module _ (low high : ℕ) (P : ℕ → Type 0) (out : (k : ℕ) → is_out low h
   all_above least [] top h le = tt
   all_above least (x ∷ xs) top h le = (is_above x (omega (arith, h.0, le)), all_above (x + 1) xs top h.1 (omega (arith, h.0, le)))
 
-  -- the tokens before a part that begins at or before `low`
+  -- The tokens before a part that begins at or before `low` have the property.
   all_before : (least : ℕ) (xs ys : List ℕ) (top : ℕ) → Ascending least (xs ++ ys) top → Begins low ys → AllOf P xs
   all_before least xs ys top h b =
       let s = split least xs ys top h in
       all_below least xs s.middle s.first (before_first s.middle low ys top s.last b)
 
-  -- the tokens that end before the range
+  -- The tokens that end before the range have the property.
   all_upto : (least : ℕ) (xs : List ℕ) (c top : ℕ) → Ascending least (xs ++ (c ∷ [])) top → c < low → AllOf P (xs ++ (c ∷ []))
   all_upto least [] c top h less = (is_below c less, tt)
   all_upto least (x ∷ xs) c top h less = let le = last_above (x + 1) xs c top h.1 in (is_below x (omega (arith, le, less)), all_upto (x + 1) xs c top h.1 less)
 
-  -- a property of a part that begins at or before `low`
+  -- states that a claim holds of a part, and that the part begins at or before `low`
   record Found (A : Type 0) (xs : List ℕ) : Type 0 where
     pub outside : A
     pub begins : Begins low xs
@@ -137,21 +137,21 @@ module _ (low high : ℕ) (P : ℕ → Type 0) (out : (k : ℕ) → is_out low h
         (subst (Begins low) (leaves_spelled role.Declaring statements) (begins_names low (identifiers role.Declaring statements) e)));
   }
 
-  -- a procedure that closes before the range
+  -- A procedure that closes before the range has the property.
   passed_over : (p : Tree ℕ (item procedure)) (least top : ℕ) → Ascending least (places p) top → closing_name p < low → EachToken P p
   passed_over (declares_procedure x fs b closing) least top h less =
       let front = x ∷ (places fs ++ places b) in
       let e : front ++ (closing ∷ []) ≡ places (declares_procedure x fs b closing) = ap (λ l. x ∷ l) (append_assoc (places fs) (places b) (closing ∷ [])) in
       each_of P (declares_procedure x fs b closing) (subst (AllOf P) e (all_upto least front closing top (subst (λ l. Ascending least l top) (sym e) h) less))
 
-  -- the tokens after a procedure
+  -- A procedure's closing name is below the upper bound of its tokens.
   closes_below : (p : Tree ℕ (item procedure)) (least top : ℕ) → Ascending least (places p) top → closing_name p < top
   closes_below (declares_procedure x fs b closing) least top h =
       let front = x ∷ (places fs ++ places b) in
       let e : front ++ (closing ∷ []) ≡ places (declares_procedure x fs b closing) = ap (λ l. x ∷ l) (append_assoc (places fs) (places b) (closing ∷ [])) in
       last_below least front closing top (subst (λ l. Ascending least l top) (sym e) h)
 
-  -- a procedure whose block has the property
+  -- A procedure has the property if its block has it.
   with_block : (x : ℕ) (fs : List ℕ) (b : Tree ℕ block) (closing least top : ℕ) → Ascending least (x ∷ (fs ++ (places b ++ (closing ∷ [])))) top → high ≤ closing
       → ((start : ℕ) → Ascending start (places b) closing → BlockFound b)
       → AllOf P (x ∷ fs) × EachToken P (block_without (way_in_block low b) b) × P closing × Begins low (x ∷ (fs ++ (places b ++ (closing ∷ []))))

@@ -1,5 +1,5 @@
--- The place of the body that contains a range of tokens, found in the procedures of a block one
--- after the other.
+-- Proves that searching the procedures of a block one after another finds the place of the body
+-- that contains a range of tokens.
 use Rattle.std.proofs.Common.{◌≡◌, ◌<◌, ◌≤◌, ℕ, zero, ◌+◌, Bool, true, false, ◌&&◌, if◌then◌else◌, nat_le, nat_lt, Option, Some, None, is_some, option_map, List, [], ◌∷◌, length, drop, get_or, refl, sym, ap, ◌∙◌, arith}
 use Rattle.std.proofs.lemmas.List.{drop_all, drop_more}
 use Rattle.std.proofs.lemmas.Option.{same_Some}
@@ -39,7 +39,7 @@ place_read : (sought : Bool) (statements : Tree ℕ (maybe body)) (closing : ℕ
 place_read true statements closing p e = place_there statements closing p (first_of (identifiers role.Declaring statements)) refl e
 place_read false statements closing p e = absurd (cc)
 
--- the place in a module
+-- The place that is found in a module belongs to the sought body.
 pub body_place_read : (low high : ℕ) (t : Tree ℕ module_text) (p : BodyPlace) → body_place low high t ≡ Some p
     → IsPlaceOf (is_in_body low high t) (body_at (way_to low t) t) (closing_at (way_to low t) t) p
 body_place_read low high t p e = place_read (is_in_body low high t) (body_at (way_to low t) t) (closing_at (way_to low t) t) p e
@@ -94,11 +94,11 @@ module _ (cs : Tree ℕ (maybe constants)) (ts : Tree ℕ (maybe type_names)) (v
   closing_later (k ∷ way) own = refl
 
 module _ (low high own : ℕ) where
-  -- in a procedure that doesn't close before the range
+  -- returns the place in a procedure that doesn't close before the range
   abbrev pub place_reached : ℕ → Tree ℕ (item procedure) → Option BodyPlace
   place_reached closing p = place_if (nat_le high closing && is_in_procedure low high p) (body_inside (way_in_procedure low p) p) (closing_inside (way_in_procedure low p) p)
 
-  -- in procedures, or in the statements of their block
+  -- returns the place in procedures, or else in the statements of their block
   abbrev pub place_among : Tree ℕ (items procedure) → Tree ℕ (maybe body) → Option BodyPlace
   place_among end statements = place_if (begins_by low (identifiers role.Declaring statements)) statements own
   place_among (more p ps) statements = if nat_lt (closing_name p) low then place_among ps statements else place_reached (closing_name p) p
@@ -125,7 +125,7 @@ module _ (low high own : ℕ) where
       ∙ among_block (constants_of (out-Block b).constants) (types_of (out-Block b).types) (variables_of (out-Block b).variables) (items_of procedure_of (out-Block b).procedures.items) (body_of (out-Block b).body)
 
   module _ (statements : Tree ℕ (maybe body)) where
-    -- the place in the procedures from one onwards, or in the statements
+    -- returns the place in the procedures from the k-th onwards, or else in the statements
     abbrev pub place_from : ℕ → List Procedure → Option BodyPlace
     place_from k xs = place_among (items_of procedure_of (drop k xs)) statements
 
@@ -143,7 +143,7 @@ module _ (low high own : ℕ) where
     in_one xs k q less here le =
         one_more xs k q less here ∙ ap (λ b. if b then place_from (k + 1) xs else place_reached (out-Procedure q).closing (procedure_of q)) (less_false (out-Procedure q).closing low le)
 
-    -- the place is in this procedure; a test says whether the range extends beyond its end
+    -- The place is in this procedure if the range doesn't extend beyond its end (`b`).
     at_end : (q : Procedure) (b : Bool) → nat_le high (out-Procedure q).closing ≡ b
         → place_reached (out-Procedure q).closing (procedure_of q) ≡ place_if (b && is_in_procedure low high (procedure_of q)) (body_inside (way_in_procedure low (procedure_of q)) (procedure_of q)) (closing_inside (way_in_procedure low (procedure_of q)) (procedure_of q))
     at_end q b e = ap (λ b. place_if (b && is_in_procedure low high (procedure_of q)) (body_inside (way_in_procedure low (procedure_of q)) (procedure_of q)) (closing_inside (way_in_procedure low (procedure_of q)) (procedure_of q))) e

@@ -1,5 +1,6 @@
--- A module in which the statements of one body were replaced. Leaving out these statements commutes
--- with renaming. All other tokens are outside the replaced range and have the same spellings.
+-- Proves facts about a module in which the statements of one body were replaced. Omitting these
+-- statements commutes with renaming. All other tokens are outside the replaced range and have the
+-- same spellings.
 use Rattle.std.proofs.Common.{◌≡◌, ℕ, zero, suc, true, [], ◌∷◌, length, slice_get, refl, sym, ap, ◌∙◌, subst}
 use Rattle.ob0_scan.specs.Reused.{words_in}
 use Rattle.ob0_scan.specs.Scanned.{Scanned}
@@ -34,13 +35,13 @@ module _ {N M : Type 0} (f : N → M) (g : ℕ → ℕ) where
     procedure_without_mapped way (declares_procedure x fs b closing) =
         ap (λ c. declares_procedure (f x) (mapped f g fs) c (f closing)) (block_without_mapped way b)
 
--- a module without a body, with its names replaced
+-- Replacing names commutes with omitting a body.
 pub without_mapped : {N M : Type 0} (f : N → M) (g : ℕ → ℕ) (way : Way) (t : Tree N module_text) → without way (mapped f g t) ≡ mapped f g (without way t)
 without_mapped f g way (is_module x b closing) = ap (λ c. is_module (f x) c (f closing)) (block_without_mapped f g way b)
 
 -- ---- outside the body
 
--- a property of each token outside the range holds for each token of the module without the body
+-- A property of each token outside the range holds of each token of the module without the body.
 pub outside_each : (P : ℕ → Type 0) (old new : Parsed) (way : Way) (s : SameTokens) → IsBodyReplaced old new way s → ((k : ℕ) → is_out s.prefix s.old_suffix k ≡ true → P k) → EachToken P (without way (tree_of old))
 outside_each P old new way s r out =
     subst (λ w. EachToken P (without w (tree_of old))) r.old_way
@@ -51,22 +52,22 @@ outside_out old new way s r = outside_each (λ i. is_out s.prefix s.old_suffix i
 
 -- two tokens of two texts that are the same word
 module _ (old new : Scanned) (k j : ℕ) (same : slice_get (words_in new.text new.tokens) j ≡ slice_get (words_in old.text old.tokens) k) where
-  -- have the same spelling
+  -- The two tokens have the same spelling.
   pub text_by_word : text_at new j ≡ text_at old k
   text_by_word = text_in_word new.text new.tokens j ∙ (ap word_text same ∙ sym (text_in_word old.text old.tokens k))
 
-  -- have the same value
+  -- The two tokens have the same value.
   pub value_by_word : value_at new j ≡ value_at old k
   value_by_word = value_in_word new.text new.tokens j ∙ (ap word_value same ∙ sym (value_in_word old.text old.tokens k))
 
--- a token outside the range has the same spelling and value at its new index
+-- A token outside the range has the same spelling at its new index.
 pub text_moved : (old new : Parsed) (way : Way) (s : SameTokens) → IsBodyReplaced old new way s → (k : ℕ) → is_out s.prefix s.old_suffix k ≡ true → text_at new.source (moved s k) ≡ text_at old.source k
 text_moved old new way s r k e = text_by_word old.source new.source k (moved s k) (r.words k e)
 
 pub value_moved : (old new : Parsed) (way : Way) (s : SameTokens) → IsBodyReplaced old new way s → (k : ℕ) → is_out s.prefix s.old_suffix k ≡ true → value_at new.source (moved s k) ≡ value_at old.source k
 value_moved old new way s r k e = value_by_word old.source new.source k (moved s k) (r.words k e)
 
--- both modules without the body have the same names and numbers
+-- Both modules without the body have the same names and numbers.
 pub names_outside : (old new : Parsed) (way : Way) (s : SameTokens) → IsBodyReplaced old new way s → named new.source (without way (tree_of new)) ≡ named old.source (without way (tree_of old))
 names_outside old new way s r =
     ap (named new.source) r.outside

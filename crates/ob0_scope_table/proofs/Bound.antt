@@ -1,4 +1,4 @@
--- The ordinals of occurrences in a table.
+-- Proves which ordinals the occurrences have in a table.
 use Rattle.std.proofs.Common.{◌≡◌, ℕ, Option, Some, None, List, map, refl, sym, ap, ◌∙◌, option_map, option_and_then, slice_get}
 use Rattle.std.proofs.lemmas.Option.{slice_get-map}
 use Rattle.ob0_scan.specs.Scanned.{Scanned}

@@ -1,4 +1,5 @@
--- The number of words ARRAY and RECORD in a tree doesn't depend on the representation of its names.
+-- Proves that the number of words ARRAY and RECORD in a tree doesn't depend on the representation
+-- of its names.
 use Rattle.std.proofs.Common.{◌≡◌, ℕ, map, List, [], ◌∷◌, refl, ap}
 use Rattle.ob0_tree.specs.Tree.{then_name}
 use Rattle.ob0_tree.specs.View.{items_of, names_of}
@@ -7,7 +8,7 @@ use Rattle.ob0_language_names.specs.Parts.{further_names, names_listed}
 use Rattle.ob0_scope_table.specs.Resolution.{Resolution}
 use Rattle.ob0_scope_table.specs.InLabels.{in_labels, label_in}
 
--- the labels of names in a list
+-- The names of a list with labels are the labels of its names.
 further_labels : (r : Resolution) (xs : List ℕ) → further_names (in_labels r (items_of then_name xs)) ≡ map (label_in r) xs
 further_labels r [] = refl
 further_labels r (x ∷ xs) = ap (λ ys. label_in r x ∷ ys) (further_labels r xs)

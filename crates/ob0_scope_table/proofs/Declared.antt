@@ -1,5 +1,5 @@
--- The names that are declared in a module, in text order, and their identifiers. The names that a
--- block declares are its declaring identifiers, and ordinals count them.
+-- Proves that the names that a block declares are its declaring identifiers in text order, and that
+-- ordinals count them.
 use Rattle.std.proofs.Common.{◌≡◌, ℕ, suc, ◌+◌, List, [], ◌∷◌, ◌++◌, length, refl, sym, ap, ◌∙◌, arith, append-nil}
 use Rattle.ob0_tree.specs.declared.tree.Role.TheVariants as role
 use Rattle.ob0_tree.specs.Tree.{Tree, identifiers, block, constant, constants, declares, declares_constant, declares_constants, declares_procedure, declares_type, declares_types, declares_variable, declares_variables, end, formals, further_name, further_section, has_body, is_module, item, items, listed, maybe, module_text, more, names, none, one, procedure, section, some_formals, then_name, then_section, type_name, type_names, value_section, variable, variable_section, variables, written_type}
@@ -21,7 +21,7 @@ abbrev mutual
   pub names_in_procedure : {N : Type 0} → Tree N (item procedure) → List N
   names_in_procedure (declares_procedure x fs b closing) = x ∷ (formal_names (formal_sections fs) ++ names_in b)
 
--- ordinals count them
+-- The ordinal after a part is the one before it plus the number of its declared names.
 
 mutual
   pub after_names_in : {N : Type 0} (k : ℕ) (b : Tree N block) → after_block k b ≡ after_names k (names_in b)
@@ -49,7 +49,7 @@ pub after_count : {N : Type 0} (k : ℕ) (xs : List N) → after_names k xs ≡ 
 after_count k [] = omega arith
 after_count k (x ∷ xs) = after_count (suc k) xs ∙ omega arith
 
--- the declaring identifiers
+-- The declared names of a part are its declaring identifiers.
 
 further_declared : (ns : Tree ℕ (items further_name)) → declaring_only (identifiers role.Declaring ns) ≡ further_names ns
 further_declared end = refl

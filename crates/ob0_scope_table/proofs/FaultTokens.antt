@@ -1,4 +1,5 @@
--- If the tokens of two texts have the same spellings, the faults of names are at the same tokens.
+-- Proves that if the tokens of two texts have the same spellings, the faults of names are at the
+-- same tokens.
 use Rattle.std.proofs.Common.{◌≡◌, ℕ, zero, suc, Bool, true, false, not, List, [], ◌∷◌, ◌++◌, length, map, drop, get_or, slice_get, refl, sym, ap, ap₂, ◌∙◌, subst, arith, if◌then◌else◌}
 use Rattle.std.specs.List.{filter}
 use Rattle.std.proofs.lemmas.List.{map-append}
@@ -46,7 +47,7 @@ texts_stay old new w = λ j i. text_same old.text new.text old.tokens new.tokens
 pub values_stay : (old new : Scanned) → AreWrittenAlike old new → value_at new ≡ value_at old
 values_stay old new w = λ j i. value_same old.text new.text old.tokens new.tokens i w.same_words j
 
--- the tree has the same names and numbers
+-- The tree has the same names and numbers over both texts.
 pub tree_named : (old new : Scanned) → AreWrittenAlike old new → (tree : ModuleTree) → named_tree_of (parsed_by new tree) ≡ named_tree_of (parsed_by old tree)
 tree_named old new w tree = λ j. mapped (texts_stay old new w j) (values_stay old new w j) (tree_of (parsed_by old tree))
 
@@ -77,7 +78,7 @@ module _ (old new : Scanned) where
     in_new = ap₂ (λ x y. x ++ y) p.in_new q.in_new ∙ sym (map-append (fault_at new) p.tokens q.tokens);
   }
 
-  -- the faults whose codes pass a test
+  -- The faults whose codes pass a test are at the same tokens.
   pub filter_same : {a b : List Fault} (p : Fault → Bool) → ((f : FaultAt) → p (fault_at new f) ≡ p (fault_at old f)) → Same a b → Same (filter p a) (filter p b)
   filter_same p alike h = record {
     tokens = filter (λ f. p (fault_at old f)) h.tokens;
@@ -159,7 +160,7 @@ module _ (old new : Scanned) where
     unbound_same (token ∷ tokens) (label ∷ labels) =
         with_one (is_unbound label) (record { code = code.Undeclared; first = token; last = token }) (unbound_at old tokens labels) (unbound_at new tokens labels) (unbound_same tokens labels)
 
-    -- the faults of names
+    -- The faults of names are at the same tokens.
     pub names_same : (tree : ModuleTree) → Same (twice_in (parsed_by old tree) ++ unbound_in (parsed_by old tree)) (twice_in (parsed_by new tree) ++ unbound_in (parsed_by new tree))
     names_same tree =
         let used : List ℕ = occurrences (tree_of (parsed_by old tree)) in

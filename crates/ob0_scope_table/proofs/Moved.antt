@@ -1,11 +1,11 @@
--- Tokens outside the replaced range, and their new indexes.
+-- Proves which new indexes the tokens outside the replaced range have.
 use Rattle.std.proofs.Common.{◌≡◌, ◌<◌, ◌≤◌, ◌+◌, ◌-◌, ◌||◌, ◌⊎◌, ℕ, Bool, true, false, nat_le, nat_lt, if◌then◌else◌, refl, sym, ap, ◌∙◌, arith, inl, inr, leb-true, ltb-true}
 use Rattle.ob0_scan.specs.declared.tokens.SameTokens.{SameTokens}
 use Rattle.ob0_scope_table.specs.BodyReplaced.{moved}
 use Rattle.ob0_scope_table.specs.OneBody.{is_out}
 use Rattle.ob0_scope_table.proofs.OneBody.{le_true, less_false, less_true}
 
--- a token outside a range is before it or after it
+-- A token outside a range is before it or after it.
 pub out_cases : (low high k : ℕ) → is_out low high k ≡ true → (k < low) ⊎ (high ≤ k)
 out_cases low high k out = one (nat_lt k low) refl
   where

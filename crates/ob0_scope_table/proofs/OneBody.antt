@@ -1,4 +1,5 @@
--- Tests of numbers, and the tokens outside a range, which have the same spellings as before.
+-- Proves facts about tests of numbers, and that the tokens outside a range have the same spellings
+-- as before.
 use Rattle.std.proofs.Common.{◌≡◌, ◌<◌, ◌≤◌, ℕ, zero, suc, slice_get, Bool, true, false, nat_le, nat_lt, Option, Some, None, List, [], ◌∷◌, refl, sym, ap, ◌∙◌, arith}
 use Rattle.std.proofs.lemmas.Bool.Decides.{nat_tests}
 use Rattle.ob0_scan.specs.declared.lexeme.Token.{Token}
@@ -38,7 +39,7 @@ le_false a b less = one (nat_le a b) refl
 
 -- ---- tokens outside the range have the same spellings as before
 
--- the spelling and the value of a token, from its word
+-- returns the spelling of a token's word
 abbrev pub word_text : Option Word → List ℕ
 word_text None = []
 word_text (Some w) = w.text

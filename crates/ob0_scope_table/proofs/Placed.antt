@@ -1,5 +1,5 @@
--- The tokens of the names and numbers of a part ascend in text order, because a tree spells its
--- text.
+-- Proves that the tokens of the names and numbers of a part ascend in text order, because a tree
+-- spells its text.
 use Rattle.std.proofs.Common.{◌≡◌, ℕ, ◌+◌, Some, None, List, [], ◌∷◌, ◌++◌, length, refl, sym, ap, ◌∙◌, subst, arith, append-nil, zero-add}
 use Rattle.ob0_scan.specs.declared.lexeme.Token.{Token}
 use Rattle.ob0_scan.specs.declared.lexeme.TokenKind.{TokenKind}
@@ -12,7 +12,7 @@ use Rattle.ob0_tree.specs.Tree.{Sort, Tree, adds, array_type, assigns, begins, b
 use Rattle.ob0_tree.proofs.Leaves.{ascending_higher, ascending_lower}
 use Rattle.ob0_scope_table.specs.BodyAlone.{EachToken}
 
--- the tokens of names and numbers, in the order of the tree
+-- returns the tokens of names and numbers, in the order of the tree
 abbrev pub places : {s : Sort} → Tree ℕ s → List ℕ
 places none = []
 places (one t) = places t
@@ -68,7 +68,7 @@ places (begins s) = places s
 places (has_body ds b) = places ds ++ places b
 places (is_module name b closing) = name ∷ (places b ++ (closing ∷ []))
 
--- the tokens of names and numbers among terminals
+-- returns the tokens of names and numbers among terminals
 abbrev pub token_places : List (Terminal ℕ) → List ℕ
 token_places [] = []
 token_places (Name n ∷ xs) = n ∷ token_places xs
@@ -139,7 +139,7 @@ places_spelled (begins s) = simp (places_spelled s)
 places_spelled (has_body ds b) = simp (token_places-append, places_spelled ds, places_spelled b)
 places_spelled (is_module name b closing) = simp (token_places-append, append-nil, places_spelled b)
 
--- they ascend
+-- The tokens of names and numbers in a text ascend.
 from_ascend : (ts : List Token) (i : ℕ) → Ascending i (token_places (lexemes_from i ts)) (i + length ts)
 from_ascend [] i = omega arith
 from_ascend (t ∷ ts) i =
@@ -157,7 +157,7 @@ places_ascend m p =
     sym (ap token_places p.places) ∙ (token_places-append (spell (tree_of m)) (EndOfText ∷ []) ∙ (append-nil (token_places (spell (tree_of m))) ∙ places_spelled (tree_of m))) in
     subst (λ l. Ascending 0 l (length m.source.tokens)) all (subst (λ n. Ascending 0 (token_places (lexemes_from 0 m.source.tokens)) n) (zero-add (length m.source.tokens)) (from_ascend m.source.tokens 0))
 
--- states a property of all tokens in a list
+-- holds if all tokens in a list have property P
 abbrev pub AllOf : (ℕ → Type 0) → List ℕ → Type 0
 AllOf P [] = Unit {0}
 AllOf P (x ∷ xs) = P x × AllOf P xs
@@ -221,7 +221,7 @@ each_of P (begins s) h = each_of P s h
 each_of P (has_body ds b) h = let s₁ = all_parts P (places ds) (places b) h in (each_of P ds s₁.0, each_of P b s₁.1)
 each_of P (is_module name b closing) h = let s₁ = all_parts P (places b) (closing ∷ []) h.1 in (h.0, each_of P b s₁.0, s₁.1.0)
 
--- a property of every token holds for each token of a part
+-- A property of every token holds of each token of a part.
 pub each_token : {s : Sort} (P : ℕ → Type 0) → ((k : ℕ) → P k) → (t : Tree ℕ s) → EachToken P t
 each_token P all t = each_of P t (all_of (places t)) where
   all_of : (xs : List ℕ) → AllOf P xs

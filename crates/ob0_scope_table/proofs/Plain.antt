@@ -1,4 +1,4 @@
--- Expressions, types and statements declare nothing.
+-- Proves that expressions, types and statements declare nothing.
 use Rattle.std.proofs.Common.{◌≡◌, ℕ, List, [], ◌∷◌, ◌++◌, refl, ◌∙◌}
 use Rattle.ob0_tree.specs.declared.tree.Role.{Role}
 use Rattle.ob0_tree.specs.declared.tree.Role.TheVariants as role
@@ -13,7 +13,7 @@ declaring_only-append ((role.ClosingName, n) ∷ xs) ys = declaring_only-append 
 declaring_only-append ((role.FieldName, n) ∷ xs) ys = declaring_only-append xs ys
 declaring_only-append ((role.ModuleName, n) ∷ xs) ys = declaring_only-append xs ys
 
--- states that no identifier declares
+-- states that no identifier in a list declares
 pub record Plain (xs : List (Role × ℕ)) : Type 0 where
   pub plain : declaring_only xs ≡ []
 
@@ -36,7 +36,7 @@ further_fields_plain (more (then_name x) rest) = field_first (further_fields_pla
 fields_plain : (ns : Tree ℕ names) → Plain (identifiers role.FieldName ns)
 fields_plain (listed x rest) = field_first (further_fields_plain rest)
 
--- the sorts of these parts
+-- holds for the sorts of items that declare nothing
 abbrev pub IsPlainItem : Item → Type 0
 IsPlainItem selector = Unit {0}
 IsPlainItem multiplier = Unit {0}

@@ -1,5 +1,6 @@
--- The spans of tokens ascend. So the places of two tokens are in the same order in all texts with
--- the same number of tokens. The token that begins or ends at a place can be found from the place.
+-- Proves that the spans of tokens ascend. So the places of two tokens are in the same order in all
+-- texts with the same number of tokens. The token that begins or ends at a place can be found from
+-- the place.
 use Rattle.std.proofs.Common.{◌≡◌, ℕ, zero, suc, ◌+◌, ◌<◌, ◌≤◌, ◌==◌, Bool, true, false, cond, Some, None, List, [], ◌∷◌, ◌++◌, length, map, get_or, slice_get, add-one, refl, sym, ap, ◌∙◌, subst, arith, ⊎_elim, eqb-true, eq-eqb, take}
 use Rattle.std.specs.Prelude.{nat_lt}
 use Rattle.std.specs.Cmp.{nat_cmp_is}
@@ -32,7 +33,7 @@ maps_more f xs x ys i d h same next =
 
 -- ---- the tokens of a text
 
--- states that each token has at least one byte, and begins at or after the end of the one before it
+-- holds if each token has at least one byte, and begins at or after the end of the one before it
 abbrev Apart : ℕ → List Token → Type 0
 Apart from [] = Unit {0}
 Apart from (t ∷ ts) = (from ≤ t.span.start) × ((t.span.start < t.span.end) × Apart t.span.end ts)
@@ -67,7 +68,7 @@ end_later from (t ∷ ts) (suc j) d h less =
     let later = end_later t.span.end ts j d h.1.1 (omega (arith, less)) in
     omega (arith, h.0, h.1.0, later)
 
--- states that each token's number is below the numbers of later tokens
+-- holds if each token's number is below the numbers of later tokens
 abbrev Rises : (Span → ℕ) → List Token → Type 0
 Rises of ts = (i j : ℕ) (d : Token) → i < j → j < length ts → of (get_or ts i d).span < of (get_or ts j d).span
 
@@ -137,7 +138,7 @@ some_place place h = one (place == 0) refl
     one false e = refl
     one true e = let none = eqb-true place 0 e in absurd (omega (arith, none, h))
 
--- the token that has a number
+-- returns the index of the first token whose number isn't below `place`, for a place that isn't 0
 module _ (of : Span → ℕ) where
   abbrev found : List Token → ℕ → ℕ
   found ts place = cond (place == 0) (length ts) (prefix_len (λ (t : Token). nat_lt (of t.span) place) ts)
@@ -148,13 +149,13 @@ module _ (of : Span → ℕ) where
   found_some : (ts : List Token) (place : ℕ) → 0 < place → found ts place ≡ prefix_len (λ (t : Token). nat_lt (of t.span) place) ts
   found_some ts place h = ap (λ b. cond b (length ts) (prefix_len (λ (t : Token). nat_lt (of t.span) place) ts)) (some_place place h)
 
-  -- binary search finds it
+  -- Binary search finds that index.
   pub point_found : (ts : List Token) (place i : ℕ) → (place ≡ 0 → ⊥) → i ≤ length ts → IsPartitionPoint (λ (t : Token). nat_lt (of t.span) place ≡ true) (λ (t : Token). nat_lt (of t.span) place ≡ false) ts i → i ≡ found ts place
   point_found ts place i some inside point =
       let index = prefix_len_is (λ (t : Token). nat_lt (of t.span) place) ts i nothing inside (λ k low. point.0 k nothing (omega arith) low) (λ less. point.1 i nothing (omega arith) less) in
       ⊎_elim (λ h. sym (found_some ts place h ∙ index)) (λ h. absurd (some (omega (arith, h)))) (cases_lt 0 place)
 
--- the number of the token with an index, or 0 if there is no such token
+-- returns the number of the token with an index, or 0 if there is no such token
 module _ (of : Span → ℕ) (none : of (record { start = 0; end = 0 }) ≡ 0) where
   abbrev at : List Token → ℕ → ℕ
   at ts i = of (span_in (slice_get ts i))
@@ -197,7 +198,7 @@ module _ (of : Span → ℕ) (none : of (record { start = 0; end = 0 }) ≡ 0) w
         (λ outside. let z = at_past ts j outside in absurd (omega (arith, z, h)))
         (cases_lt j (length ts))
 
-    -- the token found at the place of a token is at that token's place in the other text
+    -- The token that is found at the place of a token is at that token's place in the other text.
     stays : (i : ℕ) → at us (found of ts (at ts i)) ≡ at us i
     stays i = ⊎_elim
         (λ inside. ⊎_elim
@@ -243,7 +244,7 @@ module _ (old new : Scanned) (w : AreWrittenAlike old new) where
   start_back : (span_at new 0).start ≡ 0 → (span_at old 0).start ≡ 0
   start_back e = eqb-true (span_at old 0).start 0 (sym w.same_front ∙ eq-eqb (span_at new 0).start 0 e)
 
-  -- a token never ends at the text's start
+  -- A token never ends at the text's start.
   no_end : (ts us : List Token) → length us ≡ length ts → Apart 0 ts → (span_in (slice_get ts 0)).end ≡ 0 → (span_in (slice_get us 0)).end ≡ 0
   no_end [] [] same h e = refl
   no_end [] (u ∷ us) same h e = absurd (omega (arith, same))
@@ -278,6 +279,6 @@ module _ (old new : Scanned) (w : AreWrittenAlike old new) where
   all_stay [] = refl
   all_stay (f ∷ fs) = λ i. fault_stays f i ∷ all_stay fs i
 
-  -- the old faults are moved to the places of the new ones
+  -- Moving the old faults to the new text gives the new faults.
   pub faults_move : (before after : List Fault) → AreAtSameTokens old new before after → moved_faults old new before ≡ after
   faults_move before after at = ap (moved_faults old new) at.in_old ∙ (all_stay at.tokens ∙ sym at.in_new)

@@ -1,4 +1,4 @@
--- The place of a body: its first identifier, and the closing name of its block.
+-- Defines the place of a body: its first identifier, and the closing name of its block.
 -- Rule: none; for contracts: the body in which a range of tokens lies.
 use Rattle.std.specs.Prelude.{ℕ, Bool, Option, None, if◌then◌else◌, option_map}
 use Rattle.ob0_tree.specs.FirstIdentifier.{first_identifier}
@@ -9,11 +9,12 @@ use Rattle.ob0_scope_table.specs.BodyReplaced.{body_at, body_in, body_inside, cl
 use Rattle.ob0_scope_table.specs.OneBody.{is_in_block, is_in_body, is_in_procedure}
 use Rattle.ob0_scope_table.specs.declared.one_body.BodyPlace.{BodyPlace}
 
--- a module's tree, whose names are indexes of tokens
+-- returns a module's tree, whose names are indexes of tokens
 abbrev pub tree_in : ModuleTree → Tree ℕ module_text
 tree_in t = is_module t.name (block_of t.block) t.closing
 
--- the place of a body with this closing name, if it is the sought one and has an identifier
+-- Returns the place of these statements, in a block with this closing name. None if they aren't the
+-- sought ones or have no identifier.
 abbrev pub place_if : Bool → Tree ℕ (maybe body) → ℕ → Option BodyPlace
 place_if sought statements closing =
     if sought
@@ -21,20 +22,22 @@ place_if sought statements closing =
     (first_identifier statements)
     else None
 
--- the place of the body in a block, if that body contains a range of tokens; the block has this
--- closing name
+-- Returns the place of the body in a block that contains a range of tokens; the block has this
+-- closing name. None if no body contains the range.
 abbrev pub place_in_block : ℕ → ℕ → ℕ → Tree ℕ block → Option BodyPlace
 place_in_block low high closing b =
     place_if (is_in_block low high b) (body_in (way_in_block low b) b)
     (closing_in (way_in_block low b) closing b)
 
--- the same in a procedure
+-- Returns the place of the body in a procedure that contains a range of tokens. None if no body
+-- contains it.
 abbrev pub place_in_procedure : ℕ → ℕ → Tree ℕ (item procedure) → Option BodyPlace
 place_in_procedure low high p =
     place_if (is_in_procedure low high p) (body_inside (way_in_procedure low p) p)
     (closing_inside (way_in_procedure low p) p)
 
--- the same in a module
+-- Returns the place of the body in a module that contains a range of tokens. None if no body
+-- contains it.
 abbrev pub body_place : ℕ → ℕ → Tree ℕ module_text → Option BodyPlace
 body_place low high t =
     place_if (is_in_body low high t) (body_at (way_to low t) t) (closing_at (way_to low t) t)

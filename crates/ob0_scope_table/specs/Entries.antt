@@ -1,4 +1,4 @@
--- The entries of a table of ordinals.
+-- Defines the entries of a table of ordinals.
 -- Rule: none; for contracts: ordinals in 32 bits.
 use Rattle.std.specs.Prelude.{ℕ, zero, suc, min, Option, Some, None, option_map}
 
@@ -6,16 +6,16 @@ use Rattle.std.specs.Prelude.{ℕ, zero, suc, min, Option, Some, None, option_ma
 abbrev pub greatest : ℕ
 greatest = 4294967294
 
--- an ordinal as an entry holds it: one above the greatest counts as the greatest
+-- returns an ordinal as an entry holds it: one above the greatest counts as the greatest
 abbrev pub kept : Option ℕ → Option ℕ
 kept ordinal = option_map (λ n. min n greatest) ordinal
 
--- the ordinal just before a number: none before 0
+-- returns the ordinal just before a number; None before 0
 abbrev pub ordinal_before : ℕ → Option ℕ
 ordinal_before zero = None
 ordinal_before (suc n) = Some n
 
--- the number just after an ordinal: 0 if there is none
+-- returns the number just after an ordinal; 0 if there is no ordinal
 abbrev pub number_after : Option ℕ → ℕ
 number_after None = 0
 number_after (Some n) = suc n

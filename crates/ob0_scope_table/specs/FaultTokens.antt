@@ -1,5 +1,5 @@
--- Faults and the tokens at which they are. In two texts whose tokens have the same spellings, the
--- faults are at the same tokens.
+-- Defines faults with the tokens at which they are. In two texts whose tokens have the same
+-- spellings, the faults are at the same tokens.
 -- Rule: none; for contracts: what stays where the tokens of a text are written as they were.
 use Rattle.std.specs.Prelude.{◌≡◌, ◌==◌, ℕ, nat_lt, List, length, map, if◌then◌else◌}
 use Rattle.std.specs.List.{prefix_len}
@@ -10,19 +10,19 @@ use Rattle.ob0_scan.specs.Scanned.{IsScan, Scanned}
 use Rattle.ob0_scope_table.specs.Spans.{span_at}
 use Rattle.ob0_scope_table.specs.declared.fault_tokens.FaultAt.{FaultAt}
 
--- the start of the first token
+-- returns the start of the first token, in bytes
 abbrev pub first_start : Scanned → ℕ
 first_start source = (span_at source 0).start
 
--- Two texts whose tokens have the same kinds and spellings, one after the other. Both texts begin
--- with a token, or neither does.
+-- States that the tokens of two texts have the same kinds and spellings, one after the other. Both
+-- texts begin with a token, or neither does.
 pub record AreWrittenAlike (old new : Scanned) : Type 0 where
   pub old_scan : IsScan old
   pub new_scan : IsScan new
   pub same_words : words_in new.text new.tokens ≡ words_in old.text old.tokens
   pub same_front : (first_start new == 0) ≡ (first_start old == 0)
 
--- a fault from the start of one token to the end of another
+-- returns the fault from the start of one token to the end of another
 abbrev pub fault_at : Scanned → FaultAt → Fault
 fault_at source f =
     record {
@@ -31,19 +31,21 @@ fault_at source f =
           record { start = (span_at source f.first).start; end = (span_at source f.last).end };
     }
 
--- the token that begins at a place; none begins at the text's start
+-- Returns the index of the first token that doesn't begin before a place. For place 0 it is the
+-- number of tokens, as if no token began there.
 abbrev pub begun_at : List Token → ℕ → ℕ
 begun_at tokens place =
     if place == 0 then length tokens
     else prefix_len (λ (t : Token). nat_lt t.span.start place) tokens
 
--- the token that ends at a place; none ends at the text's start
+-- Returns the index of the first token that doesn't end before a place. For place 0, at which no
+-- token ends, it is the number of tokens.
 abbrev pub ended_at : List Token → ℕ → ℕ
 ended_at tokens place =
     if place == 0 then length tokens
     else prefix_len (λ (t : Token). nat_lt t.span.end place) tokens
 
--- the tokens at which a fault begins and ends
+-- returns the tokens at which a fault begins and ends
 abbrev pub tokens_of : List Token → Fault → FaultAt
 tokens_of tokens f =
     record {
@@ -52,7 +54,7 @@ tokens_of tokens f =
       last = ended_at tokens f.span.end;
     }
 
--- the faults of one text moved to the same tokens of another
+-- returns the faults of one text moved to the same tokens of another
 abbrev pub moved_faults : Scanned → Scanned → List Fault → List Fault
 moved_faults old new faults = map (fault_at new) (map (tokens_of old.tokens) faults)
 

@@ -1,4 +1,4 @@
--- Trees with labels in place of their tokens.
+-- Defines trees with labels in place of their tokens.
 -- Rule: none; for contracts: trees with labels.
 use Rattle.std.specs.Prelude.{ℕ}
 use Rattle.ob0_tree.specs.Tree.{Sort, Tree, mapped}
@@ -6,10 +6,10 @@ use Rattle.ob0_tree.specs.Places.{value_at}
 use Rattle.ob0_language_names.specs.Names.{Label}
 use Rattle.ob0_scope_table.specs.Resolution.{Resolution, label_at}
 
--- the label of the identifier at a token
+-- returns the label of the identifier at a token
 abbrev pub label_in : Resolution → ℕ → Label
 label_in r token = label_at r.module_read.source r.ordinals token
 
--- a tree with labels instead of tokens
+-- returns a tree with labels instead of tokens
 abbrev pub in_labels : {s : Sort} → Resolution → Tree ℕ s → Tree Label s
 in_labels r t = mapped (label_in r) (value_at r.module_read.source) t

@@ -1,4 +1,4 @@
--- The names of a module: the declaration to which each is bound, and the faults of names.
+-- Defines a resolved module: the declaration to which each name is bound, and the faults of names.
 -- Rule: docs/LANGUAGE.md, Scopes, Faults of scopes and types, `Undeclared`.
 use Rattle.std.specs.Prelude.{◌≡◌, ℕ, ◌-◌, nat_lt, Bool, true, false, not, ◌==◌, List, [], ◌∷◌, ◌++◌, Option, None, slice_get, slice_index_or, if◌then◌else◌, is_some}
 use Rattle.std.specs.List.{filter, list_any}
@@ -19,16 +19,16 @@ use Rattle.ob0_language_names.specs.DeclaredOnce.{declared_once}
 use Rattle.ob0_scope_table.specs.DeclaredTwice.{twice_in}
 use Rattle.ob0_scope_table.specs.Spans as spans
 
--- the ordinal in a table at a token, or None if the table has no such token
+-- returns the ordinal in a table at a token, or None if the table has no such token
 abbrev pub ordinal_in : List (Option ℕ) → ℕ → Option ℕ
 ordinal_in ordinals token = slice_index_or ordinals token None
 
--- the label of the identifier at a token, from a table of ordinals
+-- returns the label of the identifier at a token, from a table of ordinals
 abbrev pub label_at : Scanned → List (Option ℕ) → ℕ → Label
 label_at source ordinals token =
     as_label as_names (ordinal_in ordinals token) (text_at source token)
 
--- the declaring names among identifiers, in text order
+-- returns the declaring names among identifiers, in text order
 abbrev pub declaring_only : {N : Type 0} → List (Role × N) → List N
 declaring_only [] = []
 declaring_only ((role.Declaring, n) ∷ xs) = n ∷ declaring_only xs
@@ -37,7 +37,7 @@ declaring_only ((role.ClosingName, n) ∷ xs) = declaring_only xs
 declaring_only ((role.FieldName, n) ∷ xs) = declaring_only xs
 declaring_only ((role.ModuleName, n) ∷ xs) = declaring_only xs
 
--- the token that declares the object with an ordinal; none for the predeclared names
+-- returns the token that declares the object with an ordinal; None for the predeclared names
 abbrev pub token_declaring : List ℕ → ℕ → Option ℕ
 token_declaring declarations ordinal =
     if nat_lt ordinal predeclared_count
@@ -58,11 +58,11 @@ is_of_declarations fault =
 abbrev pub is_of_occurrences : Fault → Bool
 is_of_occurrences fault = elim (fault.code) [ code.Undeclared ↦ true | _ ↦ false ]
 
--- the span of a token
+-- returns the span of a token, in bytes
 abbrev pub span_at : Scanned → ℕ → Span
 span_at source token = spans.span_at source token
 
--- the faults at the occurrences that a table leaves unbound
+-- returns a fault for each occurrence that a table leaves unbound
 abbrev pub undeclared_at : Scanned → List (Option ℕ) → List ℕ → List Fault
 undeclared_at source ordinals [] = []
 undeclared_at source ordinals (token ∷ tokens) =
@@ -70,8 +70,9 @@ undeclared_at source ordinals (token ∷ tokens) =
     else record { code = code.Undeclared; span = span_at source token }
     ∷ undeclared_at source ordinals tokens
 
--- A module with its resolved names. It has the ordinals by token; the declaring tokens by ordinal,
--- which begins at `predeclared_count`; the tokens of the occurrences in text order; and the faults.
+-- A module with its resolved names. It has the ordinals by token, and the declaring tokens by
+-- ordinal, beginning at `predeclared_count`. It also has the tokens of the occurrences in text
+-- order, and the faults.
 pub record Resolution : Type 0 where
   pub module_read : Parsed
   pub ordinals : List (Option ℕ)
@@ -79,27 +80,28 @@ pub record Resolution : Type 0 where
   pub uses : List ℕ
   pub faults : List Fault
 
--- States that the table of ordinals gives the numbered tree: each identifier of the tree has the
+-- Holds if the table of ordinals gives the numbered tree: each identifier of the tree has the
 -- ordinal of its declaration.
 abbrev pub IsNumbering : Parsed → List (Option ℕ) → Type 0
 IsNumbering m ordinals =
     numbered (named_tree_of m) ≡ mapped (label_at m.source ordinals) (value_at m.source) (tree_of m)
 
--- the most detailed label: the ordinal of the declaration, if there is one, and the name's spelling
+-- returns the most detailed label: the ordinal of the declaration, if there is one, and the name's
+-- spelling
 abbrev pub with_ordinal : Labels Name (Option ℕ × Name)
 with_ordinal ordinal x = (ordinal, x)
 
--- the ordinal to which the identifier at a token is bound, and its spelling
+-- returns the ordinal to which the identifier at a token is bound, and its spelling
 abbrev pub bound_at : Scanned → List (Option ℕ) → ℕ → Option ℕ × Name
 bound_at source ordinals token = (ordinal_in ordinals token, text_at source token)
 
--- states that the table of ordinals agrees with the scopes of the module
+-- holds if the table of ordinals agrees with the scopes of the module
 abbrev pub IsBinding : Parsed → List (Option ℕ) → Type 0
 IsBinding m ordinals =
     relabelled as_names with_ordinal (named_tree_of m)
     ≡ mapped (bound_at m.source ordinals) (value_at m.source) (tree_of m)
 
--- a fault at each unbound occurrence in a list
+-- returns a fault for each unbound occurrence in a list
 abbrev pub unbound_at : Scanned → List ℕ → List Label → List Fault
 unbound_at source [] labels = []
 unbound_at source (token ∷ tokens) [] = []
@@ -109,12 +111,12 @@ unbound_at source (token ∷ tokens) (label ∷ labels) =
     ∷ unbound_at source tokens labels
     else unbound_at source tokens labels
 
--- the undeclared names of a module, in text order
+-- returns the undeclared names of a module, in text order
 abbrev pub unbound_in : Parsed → List Fault
 unbound_in m = unbound_at m.source (occurrences (tree_of m)) (bindings (named_tree_of m))
 
--- States that these are the faults of a module: duplicate declarations and wrong closing names, and
--- after these one fault for each undeclared name, in text order. There are faults of the first two
+-- States that these are the faults of a module. Duplicate declarations and wrong closing names come
+-- first, then one fault for each undeclared name, in text order. There are faults of the first two
 -- kinds exactly if a name is declared twice or a closing name is wrong.
 pub record AreFaultsOf (m : Parsed) (faults : List Fault) : Type 0 where
   pub by_kind : faults ≡ twice_in m ++ unbound_in m
@@ -125,7 +127,7 @@ pub record AreFaultsOf (m : Parsed) (faults : List Fault) : Type 0 where
 abbrev pub is_identifier_of : Parsed → ℕ → Bool
 is_identifier_of m token = list_any (λ i. i == token) (leaves (tree_of m))
 
--- states that a table has no ordinal at a token that isn't an identifier of the module
+-- holds if a table has no ordinal at a token that isn't an identifier of the module
 abbrev pub NamesAlone : Parsed → List (Option ℕ) → Type 0
 NamesAlone m ordinals =
     (token : ℕ) → is_identifier_of m token ≡ false → ordinal_in ordinals token ≡ None

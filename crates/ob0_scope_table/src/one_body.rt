@@ -1,5 +1,4 @@
-//! Finds out whether a range of tokens is inside the statements of one block, and where these
-//! statements are.
+//! Finds the body that contains a range of tokens, and whether there is one.
 
 ghost use Rattle.std.specs.Prelude.{◌≡◌};
 ghost use Rattle.ob0_tree.specs.Parsed.{tree_of};
@@ -19,9 +18,9 @@ pub struct BodyPlace {
     pub closing: usize,
 }
 
-/// True if the tokens from `low` up to, but not including, `high` are inside the statements of one
-/// block: they begin at or after the first identifier of these statements and end before the
-/// block's closing name.
+/// Returns true if the tokens from `low` up to, but not including, `high` are inside the statements
+/// of one block. They begin at or after the first identifier of these statements, and end before
+/// the block's closing name.
 pub fn is_in_body(read: &Module<'_>, low: usize, high: usize) -> bool
     ensures { result ≡ is_in_body low high (tree_of read.now) }
 {
@@ -29,7 +28,7 @@ pub fn is_in_body(read: &Module<'_>, low: usize, high: usize) -> bool
 }
 
 /// Returns the place of the body that contains the tokens from `low` up to, but not including,
-/// `high`, if one body does.
+/// `high`. None if no body contains them.
 pub fn place_of_body(tree: &ModuleTree, low: usize, high: usize) -> Option<BodyPlace>
     ensures { result ≡ body_place low high (tree_in tree.now) }
 {
@@ -40,7 +39,7 @@ pub fn place_of_body(tree: &ModuleTree, low: usize, high: usize) -> Option<BodyP
 }
 
 /// Returns the place of the body of a module that contains the tokens from `low` up to, but not
-/// including, `high`, if one body does.
+/// including, `high`. None if no body contains them.
 pub fn place_in_module(read: &Module<'_>, low: usize, high: usize) -> Option<BodyPlace>
     ensures { result ≡ body_place low high (tree_of read.now) }
 {
@@ -73,7 +72,7 @@ fn place_in_procedure(p: &Procedure, low: usize, high: usize) -> Option<BodyPlac
 }
 
 /// Returns the place of some statements if they have an identifier and the first one isn't after
-/// the token `low`.
+/// the token `low`. Otherwise None.
 fn place_of_statements(
     statements: &Option<Vec<Statement>>,
     closing: usize,

@@ -1,4 +1,4 @@
-//! The entry of a table of ordinals.
+//! Stores an entry of a table of ordinals in 32 bits.
 
 ghost use Rattle.std.specs.Prelude.{◌≡◌};
 ghost use Rattle.ob0_scope_table.specs.Entries.{kept};
@@ -27,7 +27,7 @@ impl Model for OrdinalEntry {
 }
 
 impl OrdinalEntry {
-    /// Makes the entry of an ordinal, or of none. An ordinal above the greatest counts as the
+    /// Returns the entry of an ordinal, or of none. An ordinal above the greatest one counts as the
     /// greatest.
     pub fn new(ordinal: Option<usize>) -> OrdinalEntry
         ensures { result ≡ kept ordinal }
@@ -40,7 +40,7 @@ impl OrdinalEntry {
         }
     }
 
-    /// Returns the ordinal, if there is one.
+    /// Returns the ordinal of an entry, if it has one.
     pub fn ordinal(self) -> Option<usize>
         ensures { result ≡ self }
     {

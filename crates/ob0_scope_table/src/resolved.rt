@@ -1,4 +1,4 @@
-//! A module with its names resolved.
+//! Keeps a module with its names resolved.
 
 ghost use Rattle.std.specs.Prelude.{◌≡◌, ◌-◌, ◌<◌, slice_get, Some, None};
 ghost use Rattle.ob0_tree.specs.Parsed.{named_tree_of};
@@ -14,8 +14,8 @@ use std::borrow::Cow;
 use std::marker::Model;
 
 /// The bindings of a module's names, as indexes of tokens and ordinals only: the ordinal of each
-/// token's name, the declaring tokens, the tokens of the occurrences, and the faults. It borrows
-/// nothing.
+/// token's name, the declaring tokens, the tokens of the occurrences, and the faults. Bindings
+/// borrow nothing.
 #[derive(Drop)]
 pub struct Bindings {
     pub ordinals: Vec<OrdinalEntry>,
@@ -65,7 +65,7 @@ impl<'t> Resolved<'t> {
         }
     }
 
-    /// Joins bindings that are kept elsewhere to their module.
+    /// Joins bindings that are stored elsewhere to their module.
     pub fn from_parts(module: &'t Module<'t>, bindings: &'t Bindings) -> Resolved<'t>
         requires { IsResolution (resolution_by «module».now bindings.now) }
         ensures { result ≡ resolution_by «module».now bindings.now }
@@ -102,7 +102,7 @@ impl<'t> Resolved<'t> {
     }
 
     /// Returns the ordinal of the declaration to which an occurrence is bound. Occurrences are
-    /// counted from 0 in text order. Returns None if the occurrence is unbound or doesn't exist.
+    /// counted from 0 in text order. None if the occurrence is unbound or doesn't exist.
     pub fn declaration_of(&self, occurrence: usize) -> Option<usize>
         ensures { result ≡ binds (named_tree_of self.now.module_read) occurrence }
     {
@@ -122,9 +122,9 @@ impl<'t> Resolved<'t> {
     }
 
     /// Returns the ordinal of the declaration of the identifier at a token. A looked-up name has
-    /// the ordinal that it is bound to, a declaring name has its own, and a procedure's closing
-    /// name has the procedure's. Returns None at a field, at the module's name, at an unbound name
-    /// and at any other token.
+    /// the ordinal to which it is bound, a declaring name has its own, and a procedure's closing
+    /// name has the procedure's. None at a field, at the module's name, at an unbound name and at
+    /// any other token.
     pub fn ordinal_at(&self, token: usize) -> Option<usize>
         ensures { result ≡ ordinal_in self.now.ordinals token }
     {
@@ -145,8 +145,8 @@ impl<'t> Resolved<'t> {
         self.bindings().declarations.as_slice()
     }
 
-    /// Returns the token that declares the object with this ordinal. Returns None for a predeclared
-    /// name, and if there is no such ordinal.
+    /// Returns the token that declares the object with this ordinal. None for a predeclared name,
+    /// and if there is no such ordinal.
     pub fn declaring_token(&self, ordinal: usize) -> Option<usize>
         ensures { result ≡ token_declaring self.now.declarations ordinal }
     {

@@ -1,4 +1,4 @@
-//! Tables of ordinals by token, the spans of tokens, and comparisons with their spellings.
+//! Reads tables of ordinals by token and spans of tokens, and compares spellings of tokens.
 
 ghost use Rattle.std.specs.Prelude.{◌≡◌};
 ghost use Rattle.ob0_tree.specs.Places.{text_at};
@@ -20,7 +20,7 @@ pub fn ordinal_at(ordinals: &[OrdinalEntry], token: usize) -> Option<usize>
     }
 }
 
-/// True if there is an ordinal and it is this one.
+/// Returns true if there is an ordinal and it is this one.
 pub fn same_ordinal(found: Option<usize>, ordinal: usize) -> bool
     ensures { result ≡ same_ordinal found ordinal }
 {
@@ -30,7 +30,8 @@ pub fn same_ordinal(found: Option<usize>, ordinal: usize) -> bool
     }
 }
 
-/// Returns the span of a token, or an empty one at the text's start if there is no such token.
+/// Returns the span of a token, in bytes. If there is no such token, it is an empty span at the
+/// text's start.
 pub fn token_span(tokens: &Tokens, token: usize) -> Span
     ensures { result ≡ span_at tokens.now token }
 {
@@ -40,7 +41,7 @@ pub fn token_span(tokens: &Tokens, token: usize) -> Span
     }
 }
 
-/// True if a token has this name as its spelling. A token that doesn't exist has the empty
+/// Returns true if a token has this name as its spelling. A token that doesn't exist has the empty
 /// spelling.
 pub fn is_written(tokens: &Tokens, token: usize, name: &str) -> bool
     ensures { result ≡ same_name (text_at tokens.now token) name.now }

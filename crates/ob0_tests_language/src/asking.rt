@@ -1,4 +1,4 @@
-//! The questions that these tests ask about texts, in tables, and the function that asks them.
+//! Defines the questions that these tests ask about texts, in tables, and asks them.
 
 ghost use Rattle.std.specs.Prelude.{⊤};
 
@@ -20,20 +20,21 @@ pub enum Asked {
     Faults,
     /// The type of the declaration with an ordinal.
     TypeOf(usize),
-    /// The place at which another name for the declaration with an ordinal isn't free.
+    /// The place at which a new name for the declaration with this ordinal has its first conflict,
+    /// or that it has none.
     Free(usize, &'static str),
-    /// The bindings of the occurrences after the declaration with an ordinal is renamed.
+    /// The bindings of the occurrences after the declaration with this ordinal is renamed.
     Bound(usize, &'static str),
-    /// The facts about the name at a byte.
+    /// The facts about the name at a byte offset.
     NameAt(usize),
     /// The hover text of each name, followed by a bar.
     Shown,
-    /// The output of a run on an input, and how it ends, with bounds on open calls and on
-    /// iterations of a loop.
+    /// The output of a run on an input, and its end, with bounds on open calls and on iterations of
+    /// a loop.
     Run(&'static [i32], u32, u32),
     /// The nodes that the statements are lowered to.
     Code,
-    /// The text after a renaming at a place, or the refusal. The next questions are for the text
+    /// The text after a renaming at a place, or the refusal. The next questions are about the text
     /// after other edits.
     Rename(u64, u64, &'static str),
     InlineHere(u64, u64),
@@ -56,9 +57,9 @@ pub(crate) use rows;
 #[derive(Clone, Copy, PartialEq, Eq)]
 pub enum Walk {
     Asking,
-    /// With allocations that may fail.
+    /// Answers are checked although an allocation may fail; then there need be none.
     Refused,
-    /// Each row is a renaming, made through the analysis.
+    /// Each row is a renaming, which is made through the analysis.
     RenamingInAnalysis,
 }
 
@@ -138,8 +139,8 @@ fn is_said(alloc: Global, row: &Row, walk: Walk) -> bool {
     }
 }
 
-/// Returns the text and the expected answer of the first row that is answered otherwise, or two
-/// empty texts if there is no such row.
+/// Returns the text and the expected answer of the first row with another answer. Two empty texts
+/// mean that there is no such row.
 pub fn first_wrong(
     alloc: Global,
     rows: &'static [Row],
@@ -163,7 +164,7 @@ pub fn faults_of(alloc: Global, analysis: &Analysis) -> Result<String, AllocErro
     reported_faults(alloc, faults.as_slice())
 }
 
-/// Returns each fault's code and bytes, and what a syntax fault expects.
+/// Returns each fault's code and range in bytes, and for a syntax fault what is expected.
 fn reported_faults(alloc: Global, faults: &[Diagnosis]) -> Result<String, AllocError> {
     let mut out = String::new(alloc);
     for fault in faults {
@@ -182,12 +183,12 @@ fn push_fault(out: &mut String, fault: &Diagnosis) -> Result<(), AllocError> {
     write!(out, "{code} {start}-{end}; {expected}")
 }
 
-/// Adds a number after a text.
+/// Appends a text and a number.
 pub fn push_number(out: &mut String, before: &str, number: usize) -> Result<(), AllocError> {
     write!(out, "{before}{number}")
 }
 
-/// Adds the start and the end of a span after a text.
+/// Appends a text, and the start and end of a span in bytes.
 pub fn push_span(out: &mut String, before: &str, span: Span) -> Result<(), AllocError> {
     let (start, end) = (span.start, span.end);
     write!(out, "{before}{start}-{end}")

@@ -1,5 +1,5 @@
-//! The nodes that statements are lowered to. No contract distinguishes a fused node from the nodes that it stands for:
-//! without it the program would only be slower.
+//! Tests the nodes that statements are lowered to. No contract distinguishes a fused node from the nodes that it
+//! replaces: without the fusion the program would only be slower.
 
 use crate::asking::Asked::Code;
 use crate::asking::{Row, Walk, first_wrong, rows};
@@ -9,7 +9,8 @@ use ob0_types::WellTyped;
 use std::alloc::{AllocError, Global};
 use std::process::Abort;
 
-/// Adds the names of the nodes of a module's body: of each statement, what is evaluated in it, and the statements in it.
+/// Appends the names of the nodes of a module's body: for each statement, the nodes that are evaluated in it, and the
+/// statements in it.
 pub fn push_code(
     alloc: Global,
     out: &mut String,

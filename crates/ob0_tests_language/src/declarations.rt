@@ -1,4 +1,4 @@
-//! The types of declarations, and the places at which another name for one isn't free.
+//! Tests the types of declarations, and the conflicts of new names.
 
 use crate::asking::Asked::{Bound, Free, TypeOf};
 use crate::asking::{Row, Walk, first_wrong, push_number, push_span, rows};
@@ -8,7 +8,7 @@ use ob0_types::{ArrayShape, Parts, RecordShape, Shape, WellTyped};
 use std::alloc::{AllocError, Global};
 use std::process::Abort;
 
-/// Adds the type of the declaration with an ordinal.
+/// Appends the type of the declaration with this ordinal.
 pub fn push_type(
     out: &mut String,
     module: &WellTyped<'_>,
@@ -20,7 +20,7 @@ pub fn push_type(
     }
 }
 
-/// Adds a type, with at most two levels of arrays.
+/// Appends a type, with at most two levels of arrays.
 fn push_shape(out: &mut String, shape: Shape<'_>) -> Result<(), AllocError> {
     let mut level = shape;
     for _ in 0..3 {
@@ -53,7 +53,8 @@ fn push_record(out: &mut String, record: &RecordShape) -> Result<(), AllocError>
     write!(out, "RECORD {ordinal} with {fields}")
 }
 
-/// Adds the place at which another name for the declaration with an ordinal isn't free.
+/// Appends the place at which a new name for the declaration with this ordinal has its first
+/// conflict, or `free`.
 pub fn push_capture(
     alloc: Global,
     out: &mut String,
@@ -67,7 +68,7 @@ pub fn push_capture(
     }
 }
 
-/// Adds the bindings of the occurrences after the declaration with an ordinal is renamed.
+/// Appends the bindings of the occurrences after the declaration with this ordinal is renamed.
 pub fn push_bound(
     alloc: Global,
     out: &mut String,

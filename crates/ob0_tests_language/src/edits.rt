@@ -1,4 +1,4 @@
-//! Renamed, inlined and formatted texts, and refusals of edits.
+//! Tests renamed, inlined and formatted texts, and refusals of edits.
 
 ghost use Rattle.std.specs.Prelude.{◌≡◌};
 ghost use Rattle.std.specs.Str.{chars};
@@ -17,7 +17,7 @@ use ob0_types::WellTyped;
 use std::alloc::{AllocError, Global};
 use std::process::Abort;
 
-/// Adds a module's text after an edit, or the refusal.
+/// Appends a module's text after an edit, or the refusal.
 pub fn push_edited(
     alloc: Global,
     out: &mut String,
@@ -29,7 +29,7 @@ pub fn push_edited(
     out.push_str(apply_or_refuse(alloc, &store, edits)?.as_str())
 }
 
-/// Returns the edits; for questions that aren't about edits, an empty list.
+/// Returns the edits that answer a question. If the question isn't about edits, the list is empty.
 fn edits_of<T: TextStore>(
     alloc: Global,
     store: &T,
@@ -63,7 +63,8 @@ fn apply_or_refuse(
     }
 }
 
-/// Returns an analysed text after a renaming, or the refusal, or the text's faults.
+/// Returns an analysed text after a renaming, or the refusal. If the text has faults, it returns
+/// these.
 pub fn rename_or_faults(
     alloc: Global,
     analysis: &Analysis,
@@ -166,7 +167,7 @@ const COMMENTED: &str = "MODULE M; CONST c (* five *) = 5; (* on *) BEGIN Write(
 const SEVERAL: &str =
     "MODULE M; CONST a = 9; c = -5; d = c; BEGIN Write(a - c); Write(c DIV 3) END M.";
 
-/// The value is written in parentheses, which nest one level too deep.
+/// If the constant is inlined, its value is written in parentheses, which nest one level too deep.
 const DEEP: &str = "MODULE M; CONST c = -1; VAR x: INTEGER; BEGIN x := \
     ((((((((((((((((((((((((((((((((((((((((((((((((((\
     ((((((((((((((((((((((((((((((((((((((((((((((((((c\
@@ -214,8 +215,8 @@ fn constants_are_inlined(rt: HostRuntime) {
 
 const TWO: Indent = Indent::Spaces(2);
 
-/// Texts, their indentation, and the formatted texts, which formatting leaves unchanged: `TEXT,
-/// INDENT => LAID OUT;`.
+/// Texts, their indentation, and the formatted texts, which formatting doesn't change: `TEXT,
+/// INDENT => FORMATTED;`.
 macro_rules! layouts {
     ($($text:expr, $indent:expr => $wanted:expr;)*) => {
         &[$(($text, LayOut($indent), $wanted), ($wanted, LayOut($indent), $wanted)),*]

@@ -1,4 +1,4 @@
-//! The faults of example texts: the code, start and end of each, in text order.
+//! Tests the faults of example texts: the code, start and end of each, in text order.
 
 use crate::asking::Asked::Faults;
 use crate::asking::{Row, Walk, at, faults_of, first_wrong, rows};
@@ -12,7 +12,7 @@ static ROWS: &[Row] = rows![
     "MODULE M; VAR n: INTEGER; BEGIN Read(n); REPEAT Write(n); n := n - 1 UNTIL n <= 0 END M." => "";
     // Lexemes.
     "MODULE M; BEGIN 12ab $ END M." => "NumberJoinsLetter 16-20; BadChar 21-22; ";
-    // Syntax: the place of the token, and what is expected there.
+    // Syntax: the place of the unexpected token, and the expected one.
     "MODULE M; BEGIN x = 1 END M." => "Syntax 18-19; expected END";
     "MODULE M; BEGIN x[0] END M." => "Syntax 21-24; expected :=";
     "MODULE M; VAR x INTEGER; END M." => "Syntax 16-23; expected :";
@@ -83,7 +83,7 @@ fn the_faults_of_worked_texts_are_reported(rt: HostRuntime) {
     assert!(rt; text.is_empty(), "{wanted} of {text}");
 }
 
-/// `TEXT, START, END, NEW;` for each.
+/// Changes: `TEXT, START, END, NEW;` for each.
 macro_rules! changes {
     ($($text:expr, $start:expr, $end:expr, $new:expr;)*) => { &[$(($text, $start, $end, $new)),*] };
 }
@@ -97,8 +97,8 @@ const RECORDS: &str =
     "MODULE M; TYPE T = RECORD f, g: INTEGER END; VAR t: T; PROCEDURE P(a, b: T); BEGIN a := b; a.f := t.g END P; \
     BEGIN P(t, t); z := t END M.";
 
-/// Texts of one line, and changes outside or inside identifiers: the start, the end, and the new
-/// text.
+/// Texts of one line, each with a change outside or inside identifiers: its start, its end, and the
+/// new text.
 static CHANGES: &[(&str, u64, u64, &str)] = changes![
     // A number on which types depend.
     "MODULE M; CONST n = 2; VAR a: ARRAY n OF INTEGER; BEGIN a[n - 1] := 1; a[2] := n END M.", 20, 21, "20";
@@ -153,14 +153,14 @@ fn faults_from_nothing(alloc: Global, text: &str) -> Result<String, AllocError> 
     faults_of(alloc, &analysis)
 }
 
-/// Returns whether a changed text has the faults that an analysis from scratch finds.
+/// Returns true if a changed text has the faults that an analysis from scratch finds.
 fn is_as_new(alloc: Global, old: &str, new: &str) -> Result<bool, AllocError> {
     let found = faults_after(alloc, old, new)?;
     let wanted = faults_from_nothing(alloc, new)?;
     Ok(found.as_str() == wanted.as_str())
 }
 
-/// Returns whether a text that is changed, and changed back, has the faults that an analysis from
+/// Returns true if a text that is changed, and changed back, has the faults that an analysis from
 /// scratch finds.
 fn are_as_new(alloc: Global, row: &(&str, u64, u64, &str)) -> Result<bool, AllocError> {
     let (text, start, end, new) = *row;
@@ -170,7 +170,8 @@ fn are_as_new(alloc: Global, row: &(&str, u64, u64, &str)) -> Result<bool, Alloc
     Ok(is_as_new(alloc, text, store.as_str())? && is_as_new(alloc, store.as_str(), text)?)
 }
 
-/// Returns the number of the first change after which a text has other faults.
+/// Returns the number of the first change after which a text has other faults. None if there is
+/// none.
 fn first_unlike_new(alloc: Global, changes: &[(&str, u64, u64, &str)]) -> Option<usize> {
     for i in 0..changes.len() {
         if are_as_new(alloc, &changes[i]) != Ok(true) {

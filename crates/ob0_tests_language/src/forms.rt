@@ -1,5 +1,5 @@
-//! The forms in which the parser represents expressions, which no contract distinguishes. Also the
-//! sizes of nodes and of the entries for the bindings of tokens.
+//! Tests the forms in which the parser represents expressions, which no contract distinguishes.
+//! Also tests the sizes of nodes and of the entries for the bindings of tokens.
 
 use ob0_parse::parse;
 use ob0_scan::{Tokens, scan};
@@ -23,7 +23,8 @@ const ONE_FACTOR: &str =
 const OPERATIONS: &str =
     "MODULE M; VAR x: INTEGER; BEGIN x := -x; x := +1; x := (x) * 2; x := a[i].b + 1; x := ~b & c; x := x = 1; x := (x) # y; x := a.b < 3; x := -(x) END M.";
 
-/// Returns whether a statement assigns a value of the small form.
+/// Returns true if a statement assigns a value in the small form (one factor), and false if in
+/// another form. None if the statement isn't an assignment.
 fn assigns_factor(s: &Statement) -> Option<bool> {
     match s {
         Statement::Assign(a) => match &a.value {
@@ -34,8 +35,8 @@ fn assigns_factor(s: &Statement) -> Option<bool> {
     }
 }
 
-/// Returns whether statements are this many assignments, all with a value of the small form, or all
-/// with another one.
+/// Returns true if the statements are this many assignments, all with a value in the small form, or
+/// all with a value in another form.
 fn are_assignments(statements: &[Statement], count: usize, factor: bool) -> bool {
     for s in statements {
         if assigns_factor(s) != Some(factor) {
@@ -59,8 +60,8 @@ fn are_parsed(alloc: Global, tokens: &Tokens, count: usize, factor: bool) -> boo
     }
 }
 
-/// Returns whether the body of a text has this many assignments, all with a value of the small
-/// form, or all with another one.
+/// Returns true if the body of a text has this many assignments. All must have a value in the small
+/// form, or all in another form.
 fn all_assign(alloc: Global, text: &str, count: usize, factor: bool) -> bool {
     match scan(alloc, text) {
         Ok(tokens) => are_parsed(alloc, &tokens, count, factor),

@@ -1,4 +1,4 @@
-//! A module that passes the layers one by one, each called by its own path.
+//! Tests a module that passes through the layers one by one, each called by its own path.
 
 use ob0_parse::{ParseRefusal, parse};
 use ob0_run::laws::{
@@ -17,7 +17,7 @@ const TEXT: &str =
 /// The ordinals of the declarations of INTEGER, x, c, x, c, Write and x.
 static BOUND: &[usize] = &[0, 8, 7, 8, 7, 5, 8];
 
-/// Returns whether the names of the module are bound to their declarations.
+/// Returns true if the names of the module are bound to their declarations.
 fn is_bound(names: &Resolved<'_>) -> bool {
     for occurrence in 0..BOUND.len() {
         if names.declaration_of(occurrence) != Some(BOUND[occurrence]) {
@@ -29,7 +29,7 @@ fn is_bound(names: &Resolved<'_>) -> bool {
         && names.tokens().text() == names.module().tokens().text()
 }
 
-/// Returns whether the module's constant has its value, and only its variable has a type.
+/// Returns true if the module's constant has its value, and only its variable has a type.
 fn has_types(typed: &WellTyped<'_>) -> bool {
     typed.constant(7) == Some(Scalar::Number(3))
         && typed.constant(8) == None
@@ -48,7 +48,7 @@ fn is_typed(checked: &Checked<'_>) -> bool {
     }
 }
 
-/// Returns whether the module is well-typed, with the value of its constant, and with a type only
+/// Returns true if the module is well-typed, with the value of its constant, and with a type only
 /// for its variable.
 fn is_well_typed(alloc: Global, names: &Resolved<'_>) -> bool {
     match check(alloc, names) {
@@ -64,7 +64,7 @@ fn is_resolved(alloc: Global, module: &Module<'_>) -> bool {
     }
 }
 
-/// Returns whether the module has this nesting and this many identifiers.
+/// Returns true if the module has this nesting and this many identifiers.
 fn is_shaped(alloc: Global, module: &Module<'_>, nesting: u32, count: usize) -> bool {
     match module.identifiers(alloc) {
         Ok(identifiers) => module.nesting() == nesting && identifiers.len() == count,

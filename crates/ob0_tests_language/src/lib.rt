@@ -1,5 +1,5 @@
-//! Tests that need a module: syntax and faults, names, runs, edits that keep the runs, formatting.
-//! They are examples with known answers.
+//! Tests everything that needs a module: syntax and faults, names, runs, edits that keep the runs,
+//! and formatting. The tests are examples with known answers.
 #![tactic(auto)]
 
 #[cfg(test)]

@@ -1,4 +1,4 @@
-//! The answers about the names of example modules, and their hover texts.
+//! Tests the answers about the names of example modules, and their hover texts.
 
 use crate::asking::Asked::{NameAt, Shown};
 use crate::asking::{FIELDS, RECURSIVE, Row, Walk, first_wrong, push_number, push_span, rows};
@@ -8,8 +8,8 @@ use ob0_types::WellTyped;
 use std::alloc::{AllocError, Global};
 use std::process::Abort;
 
-/// Adds what the name at a byte refers to, the places of its declaration and of its uses, and its
-/// hover text.
+/// Appends the meaning of the name at a byte offset, the places of its declaration and of its uses,
+/// and its hover text. Appends nothing if there is no name at the offset.
 pub fn push_name(
     alloc: Global,
     out: &mut String,
@@ -35,7 +35,7 @@ fn push_of(out: &mut String, of: Of) -> Result<(), AllocError> {
     }
 }
 
-/// Adds the other places of that name.
+/// Appends the places of the uses of the name at a byte offset.
 fn push_named(
     alloc: Global,
     out: &mut String,
@@ -54,7 +54,7 @@ fn push_spans(out: &mut String, spans: &[Span]) -> Result<(), AllocError> {
     Ok(())
 }
 
-/// Adds the hover text and its range, which must be the name itself.
+/// Appends the hover text and its range, which must be the name itself.
 fn push_shown(
     alloc: Global,
     out: &mut String,
@@ -100,7 +100,7 @@ fn names_and_fields_are_found(rt: HostRuntime) {
     assert!(rt; text.is_empty(), "{wanted} in {text}");
 }
 
-/// Adds the hover text of each identifier that has one.
+/// Appends the hover text of each identifier that has one.
 pub fn push_all_shown(
     alloc: Global,
     out: &mut String,
@@ -116,7 +116,7 @@ pub fn push_all_shown(
     Ok(())
 }
 
-/// Adds the hover text of the name at a place, and returns whether there is one.
+/// Appends the hover text of the name at a place, and returns whether there is one.
 fn push_if_shown(
     alloc: Global,
     out: &mut String,
@@ -185,7 +185,7 @@ fn each_kind_of_name_is_shown(rt: HostRuntime) {
     assert!(rt; text.is_empty(), "{text}");
 }
 
-// `make faults` runs this once for each allocation, which is then refused.
+// `make faults` runs this once for each allocation, which then fails.
 #[test]
 fn a_refused_allocation_changes_no_answer(rt: HostRuntime) {
     let (text, _) = first_wrong(rt.alloc(), shown_rows(), Walk::Refused);

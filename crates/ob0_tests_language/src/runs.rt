@@ -1,4 +1,4 @@
-//! The output of example modules, and how their runs end.
+//! Tests the output of example modules, and how their runs end.
 
 use crate::asking::Asked::Run;
 use crate::asking::{BLOCKS, COUNTING, RECURSIVE, Row, Walk, first_wrong, rows};
@@ -7,7 +7,7 @@ use ob0_types::WellTyped;
 use std::alloc::{AllocError, Global};
 use std::process::Abort;
 
-/// Adds the output of a run, with `/` for a line break, and how the run ends.
+/// Appends the output of a run, with `/` for a line break, and how the run ends.
 pub fn push_run(
     alloc: Global,
     out: &mut String,
@@ -166,7 +166,7 @@ fn worked_modules_are_run(rt: HostRuntime) {
     assert!(rt; text.is_empty(), "{wanted} of {text}");
 }
 
-// `make faults` runs this once for each allocation, which is then refused.
+// `make faults` runs this once for each allocation, which then fails.
 #[test]
 fn a_refused_allocation_changes_no_run(rt: HostRuntime) {
     let (text, wanted) = first_wrong(rt.alloc(), run_rows(), Walk::Refused);

@@ -1,14 +1,14 @@
-//! Tables of cases, and the function that checks them.
+//! Checks tables of cases.
 
 use std::alloc::{AllocError, Global};
 
 /// A row of a table.
 pub trait Case {
-    /// Returns whether the outcome is the one that the row expects.
+    /// Returns true if the outcome is the one that the row expects.
     fn holds(&self, alloc: Global) -> Result<bool, AllocError>;
 }
 
-/// Returns the number of the first row that doesn't hold, or None if all rows hold.
+/// Returns the number of the first row that doesn't hold. None if all rows hold.
 pub fn first_wrong<C: Case>(alloc: Global, rows: &[C]) -> Option<usize> {
     for i in 0..rows.len() {
         if rows[i].holds(alloc) != Ok(true) {

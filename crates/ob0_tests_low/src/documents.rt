@@ -1,5 +1,5 @@
-//! The state of documents while they are opened, changed, lost and closed, in both stores. Also the
-//! state of documents and of a text after an allocation was refused.
+//! Tests the state of documents while they are opened, changed, lost and closed, in both stores.
+//! Also tests documents and a text after an allocation failed.
 
 use crate::cases::{Case, first_wrong};
 use crate::documents::Act::{Close, Lose, Note, Open};
@@ -15,11 +15,11 @@ type ChangeRow = ((u64, u64), (u64, u64), &'static str);
 /// An action on a document.
 enum Act {
     Open(i64, &'static str),
-    /// A notification with changes; and the bytes around them: their offset, how many were removed,
-    /// and how many were added.
+    /// A notification with changes. The changed bytes are given by their offset, the number of
+    /// removed bytes and the number of added bytes.
     Note(i64, &'static [ChangeRow], Option<(usize, usize, usize)>),
     Lose,
-    /// Says whether the document was open.
+    /// True if the document was open before.
     Close(bool),
 }
 
@@ -33,7 +33,7 @@ enum Known {
 
 const OPENED: &str = "a\rb";
 
-/// Three changes of that text in one notification; `CHANGED_BY_THREE` is the result.
+/// Three changes of `OPENED` in one notification; `CHANGED_BY_THREE` is the result.
 const THREE_CHANGES: &[ChangeRow] =
     rows![((1, 0), (1, 0), "\n"); ((1, 1), (1, 1), "\nc"); ((2, 0), (2, 1), "d");];
 
@@ -79,7 +79,7 @@ fn changes_of(alloc: Global, rows: &[ChangeRow]) -> Result<Vec<Change>, AllocErr
     Ok(changes)
 }
 
-/// Returns whether a document has the expected state.
+/// Returns true if a document has the expected state.
 fn is_known<T: TextStore>(documents: &Documents<T>, uri: &str, wanted: Known) -> bool {
     match (documents.get(uri), wanted) {
         (Some(Held::InStep { version, text }), InStep(number, content)) => {
@@ -99,7 +99,7 @@ fn are_bytes(found: Option<ReplacedBytes>, wanted: Option<(usize, usize, usize)>
     }
 }
 
-/// Performs an action, and returns whether its result is the expected one.
+/// Performs an action, and returns true if its result is the expected one.
 fn does<T: TextStore>(
     alloc: Global,
     documents: &mut Documents<T>,
@@ -133,7 +133,7 @@ fn do_all<T: TextStore>(
     Ok(true)
 }
 
-/// Returns whether all actions of a row have their expected results, in the row's unit.
+/// Returns true if all actions of a row have their expected results, in the row's unit.
 fn are_done<T: TextStore>(alloc: Global, row: &Row) -> Result<bool, AllocError> {
     let mut documents: Documents<T> = Documents::new(alloc);
     if row.0 == Unit::Utf8 {
@@ -154,8 +154,8 @@ fn a_document_is_held_until_it_is_closed_or_lost(rt: HostRuntime) {
     assert!(rt; wrong.is_none(), "row {wrong:?}");
 }
 
-/// Opens a document, and tries again if an allocation failed. Returns whether it was closed in
-/// between and is open now.
+/// Opens a document, and tries again if an allocation failed. Returns true if the failure left it
+/// closed and it is open now.
 fn opens(documents: &mut Documents<Lines>, uri: &str) -> bool {
     if documents.did_open(uri, 1, OPENED).is_err() {
         if documents.get(uri).is_some() || documents.did_open(uri, 1, OPENED).is_err() {
@@ -165,7 +165,7 @@ fn opens(documents: &mut Documents<Lines>, uri: &str) -> bool {
     is_known(documents, uri, InStep(1, OPENED))
 }
 
-/// Changes a document. Returns whether it is then in step if the call succeeded, and out of step
+/// Changes a document. Returns true if it is then in step if the call succeeded, and out of step
 /// otherwise.
 fn changes(documents: &mut Documents<Lines>, uri: &str, note: &[Change]) -> bool {
     match documents.did_change(uri, 2, note) {
@@ -174,7 +174,7 @@ fn changes(documents: &mut Documents<Lines>, uri: &str, note: &[Change]) -> bool
     }
 }
 
-/// Opens two documents and changes one of them. Returns whether both have their expected states.
+/// Opens two documents and changes one of them. Returns true if both have their expected states.
 fn are_held(alloc: Global) -> Result<bool, AllocError> {
     let note = changes_of(alloc, THREE_CHANGES)?;
     let mut documents: Documents<Lines> = Documents::new(alloc);
@@ -186,7 +186,7 @@ fn are_held(alloc: Global) -> Result<bool, AllocError> {
     )
 }
 
-/// Returns whether a refused replacement leaves the text unchanged.
+/// Returns true if a replacement that fails leaves the text unchanged.
 fn is_text_left(alloc: Global) -> Result<bool, AllocError> {
     let mut store = Lines::from_str(alloc, OPENED)?;
     match store.replace(range_of((1, 0), (1, 0)), "\nmore than there was room for") {
@@ -195,7 +195,7 @@ fn is_text_left(alloc: Global) -> Result<bool, AllocError> {
     }
 }
 
-// `make test` runs this once for each allocation, which is then refused. (The test repeats its own
+// `make test` runs this once for each allocation, which then fails. (The test repeats its own
 // allocations.)
 #[test]
 fn a_refused_note_leaves_its_document_alone_out_of_step(rt: HostRuntime) {
@@ -203,7 +203,7 @@ fn a_refused_note_leaves_its_document_alone_out_of_step(rt: HostRuntime) {
     assert!(rt; held == Ok(true) || held.is_err() && are_held(rt.alloc()) == Ok(true));
 }
 
-// `make test` runs this in the same way.
+// `make test` runs this once for each allocation, which then fails.
 #[test]
 fn a_refused_replacement_leaves_the_text(rt: HostRuntime) {
     let left = is_text_left(rt.alloc());

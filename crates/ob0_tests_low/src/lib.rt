@@ -1,8 +1,8 @@
-//! Tests of the low layers: streams, texts, lexemes, numbers and messages. They contain examples
-//! with known answers, calls with ample memory, and failing allocations.
+//! Tests the low layers: streams, texts, lexemes, numbers and messages. The tests are examples with
+//! known answers, calls with ample memory, and failing allocations.
 #![tactic(auto)]
 
-/// A table of rows `ROW;`, or of pairs `ASKED => WANTED;`.
+/// A table of rows `ROW;`, or of pairs `ASKED => EXPECTED;`.
 #[cfg(test)]
 macro_rules! rows {
     ($($asked:expr => $wanted:expr;)*) => { &[$(($asked, $wanted)),*] };

@@ -1,4 +1,5 @@
-//! Compares stores of lines with whole texts: after each change of short texts, and in long lines.
+//! Tests stores of lines by comparing them with whole texts: after each change of short texts, and
+//! in long lines.
 
 use crate::cases::{Case, first_wrong};
 use crate::lines::Row::{Changed, Cut, Long};
@@ -54,7 +55,8 @@ fn stores_of(alloc: Global, text: &str, unit: Unit) -> Result<Stores, AllocError
 }
 
 impl Stores {
-    /// Returns whether both have the same text, and the same offsets up to a line and a character.
+    /// Returns true if both stores have the same text, and the same offsets up to a line and a
+    /// character.
     fn are_alike(&self, lines: u64, characters: u64) -> bool {
         for line in 0..lines {
             for character in 0..characters {
@@ -77,7 +79,8 @@ impl Stores {
         self.whole.replace(range, new)
     }
 
-    /// Returns whether a change gives the same text in both stores and replaces the same bytes.
+    /// Makes a change in both stores. Returns true if both have the same text and replaced the same
+    /// bytes.
     fn change(&mut self, line: u64, column: u64) -> Result<bool, AllocError> {
         let range = range_of((line, column), (line, column.saturating_add(2)));
         let bytes = self.lines.replace_at(range, "é-")?;
@@ -85,7 +88,7 @@ impl Stores {
         Ok(bytes == others && self.lines.as_str() == self.whole.as_str())
     }
 
-    /// Returns whether both stores agree after each change of the lines at these columns.
+    /// Changes the lines at these columns. Returns true if both stores agree after each change.
     fn change_lines(&mut self, columns: &[u64]) -> Result<bool, AllocError> {
         for line in 0..3 {
             for column in columns {
@@ -98,7 +101,8 @@ impl Stores {
     }
 }
 
-/// Returns whether a store has the same lines as a new store of its text; there are fewer than 16.
+/// Returns true if a store has the same lines as a new store of its text. Only the first 16 lines
+/// are compared.
 fn is_as_new(alloc: Global, lines: &Lines, unit: Unit) -> Result<bool, AllocError> {
     let again = Lines::from_str_in(alloc, lines.as_str(), unit)?;
     for k in 0..16 {
@@ -109,8 +113,8 @@ fn is_as_new(alloc: Global, lines: &Lines, unit: Unit) -> Result<bool, AllocErro
     Ok(lines.as_str() == again.as_str())
 }
 
-/// Returns whether both stores have the same text and places after one change, with the lines of a
-/// new store.
+/// Makes one change in both stores. Returns true if both have the same text and places, and the
+/// store of lines has the lines of a new store.
 fn agree(
     alloc: Global,
     text: &str,
@@ -123,8 +127,8 @@ fn agree(
     Ok(is_as_new(alloc, &stores.lines, unit)? && stores.are_alike(10, 8))
 }
 
-/// Returns whether the stores agree after a change over several lines, in one unit, and after a
-/// change within a line, in the other unit.
+/// Returns true if the stores agree after a change over several lines, in UTF-16 units, and after a
+/// change within a line, in bytes.
 fn agree_from(
     alloc: Global,
     text: &str,
@@ -137,8 +141,8 @@ fn agree_from(
     Ok(agree(alloc, text, Unit::Utf16, wide, new)? && agree(alloc, text, Unit::Utf8, narrow, new)?)
 }
 
-/// Returns whether they agree after each change that begins in one of the first lines and ends
-/// there or in one of the next two.
+/// Returns true if the stores agree after each of some changes. Each begins in one of the first
+/// lines, and ends there or in one of the next two.
 fn agree_after_changes(alloc: Global, text: &str, new: &str) -> Result<bool, AllocError> {
     for line in 0..4 {
         for further in 0..3 {
@@ -168,7 +172,7 @@ static COLUMNS: &[&[u64]] = &[
     &[10, 120, 60, 64, 128, 1, 90, 89],
 ];
 
-/// Returns whether the stores of a text agree far to the right in its lines, also while these are
+/// Returns true if the stores of a text agree far to the right in its lines, also after these are
 /// changed at all columns.
 fn are_alike_far_in(alloc: Global, text: &str, unit: Unit) -> Result<bool, AllocError> {
     if !stores_of(alloc, text, unit)?.are_alike(4, 160) {
@@ -182,7 +186,7 @@ fn are_alike_far_in(alloc: Global, text: &str, unit: Unit) -> Result<bool, Alloc
     Ok(true)
 }
 
-/// Returns whether a store has exactly these lines.
+/// Returns true if a store has exactly these lines.
 fn has_lines(lines: &Lines, wanted: &[&str]) -> bool {
     for k in 0..wanted.len() {
         if lines.line(k) != Some(wanted[k]) {

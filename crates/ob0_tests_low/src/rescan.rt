@@ -1,5 +1,5 @@
-//! Texts that are changed at one place and scanned again: they have the tokens, comments and faults
-//! of a scan from scratch.
+//! Tests texts that are changed at one place and scanned again. They have the tokens, comments and
+//! faults of a scan from scratch.
 
 ghost use Rattle.std.specs.Prelude.{◌≡◌, ◌++◌, IfOk, string_bytes};
 ghost use Rattle.ob0_scan.specs.Reused.{IsReplaced};
@@ -17,10 +17,10 @@ use std::process::Abort;
 /// The outcome of scanning a changed text again, compared with a scan from scratch.
 #[derive(Clone, Copy, PartialEq, Eq)]
 enum Outcome {
-    /// Both give the same. The number of tokens and comments that are read again, and whether all
-    /// tokens keep their kinds.
+    /// Both scans give the same. The number counts the tokens and comments that are read again.
+    /// True means that all tokens keep their kinds.
     Read(usize, bool),
-    /// Both refuse it for the same faults.
+    /// Both scans refuse the text for the same faults.
     Refused,
     /// The text before the change has faults.
     Unscanned,
@@ -33,7 +33,7 @@ type Parts = (&'static str, &'static str, &'static str, &'static str);
 
 enum Row {
     Short(Parts, Outcome),
-    /// With 5,000 statements before it, and as many after it.
+    /// The parts with 5,000 statements before them, and as many after them.
     Long(Parts, Outcome),
 }
 
@@ -51,7 +51,7 @@ fn join_texts(
     Ok(text)
 }
 
-/// Returns whether both have the same text, tokens and comments.
+/// Returns true if both have the same text, tokens and comments.
 fn are_same(a: &Tokens, b: &Tokens) -> bool {
     a.text() == b.text() && a.tokens() == b.tokens() && a.comments() == b.comments()
 }
@@ -73,7 +73,7 @@ fn outcome_in_place(
     }
 }
 
-/// Returns whether a scan that keeps the old tokens has this outcome as well.
+/// Returns true if a scan that keeps the old tokens has this outcome as well.
 fn has_outcome(
     found: &Result<Rescan, ScanRefusal>,
     scanned: &Result<Tokens, ScanRefusal>,
@@ -90,7 +90,8 @@ fn has_outcome(
     }
 }
 
-/// The place of a change: the numbers of bytes before it, of removed bytes and of added bytes.
+/// The place of a change, in bytes: the numbers of bytes before it, of removed bytes and of added
+/// bytes.
 #[derive(Clone, Copy)]
 struct ChangedRange {
     from: usize,
@@ -98,7 +99,8 @@ struct ChangedRange {
     added: usize,
 }
 
-/// Scans a changed text again, once with the old tokens kept and once in their place.
+/// Scans a changed text again, once keeping the old tokens and once in their place. Returns the
+/// common outcome.
 fn rescan_both(
     alloc: Global,
     old: Tokens,
@@ -128,7 +130,7 @@ fn compare(
     }
 }
 
-/// Replaces `middle` by `other`, and scans the text again.
+/// Replaces `middle` by `other`, scans the text again, and returns the outcome.
 fn change(
     alloc: Global,
     front: &str,
@@ -171,7 +173,7 @@ fn change_long(alloc: Global, parts: &Parts) -> Result<Outcome, AllocError> {
     change_between(alloc, statements.as_str(), parts)
 }
 
-/// Few tokens are read again in a long text.
+/// Changes of a long text, in which few tokens are read again.
 static LONG: &[Row] = rows![
     Long(("x := ", "1", "2", "; "), Read(1, true));
     Long(("x := ", "1", "(* one *) 1", "; "), Read(2, true));
@@ -279,8 +281,8 @@ fn random_change(alloc: Global, numbers: &mut Numbers) -> Result<Outcome, AllocE
     }
 }
 
-/// Returns whether random changes are scanned as if from scratch, and enough of them are read and
-/// refused.
+/// Returns true if random changes are scanned as if from scratch, and if enough of them are
+/// accepted and enough refused.
 fn are_random_changes_read(alloc: Global) -> bool {
     let mut numbers = Numbers { seed: 1 };
     let mut read: usize = 0;

@@ -1,4 +1,4 @@
-//! Messages from a client and their meanings, contents that aren't messages, and the bytes of
+//! Tests messages from a client and their meanings, contents that aren't messages, and the bytes of
 //! answers.
 
 use crate::cases::{Case, first_wrong};
@@ -14,8 +14,8 @@ use serde_json::{Value, json};
 use std::alloc::{AllocError, Global};
 use std::process::Abort;
 
-/// A content, or a method with its params, whose meaning is expected as a word; or a message, whose
-/// content is expected.
+/// A content, or a method with its params, with the expected meaning as a word; or a message, with
+/// its expected content.
 #[derive(Clone, Copy)]
 enum Asked {
     Content(&'static str),

@@ -1,4 +1,4 @@
-//! Examples of calculations with numbers and truth values.
+//! Tests calculations with numbers and truth values.
 
 use crate::cases::{Case, first_wrong};
 use crate::values::Reckoned::{Add, Multiply, Negate, Relate, SignOf};

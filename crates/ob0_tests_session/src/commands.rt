@@ -1,4 +1,4 @@
-//! Commands over writers that pass on what is written only when they are flushed, and command lines.
+//! Tests command lines, and commands with writers that pass written bytes on only when they are flushed.
 
 use crate::devices::{Count, Counter, Source};
 use ob0_cli::{CommandFault, CommandLine, command};
@@ -17,7 +17,7 @@ const RUN: CommandLine<'static> = CommandLine::Run {
     turns: 0,
 };
 
-/// A rename of the variable `x` to `abc`.
+/// Renames the variable `x` to `abc`.
 const RENAME: CommandLine<'static> = CommandLine::Rename {
     file: "m",
     position: Position {
@@ -27,7 +27,7 @@ const RENAME: CommandLine<'static> = CommandLine::Rename {
     name: "abc",
 };
 
-/// The same at the word MODULE, which isn't a name.
+/// Renames at the word MODULE, which isn't a name, to `abc`.
 const RENAME_WORD: CommandLine<'static> = CommandLine::Rename {
     file: "m",
     position: Position {
@@ -40,8 +40,8 @@ const RENAME_WORD: CommandLine<'static> = CommandLine::Rename {
 /// A command line, the bytes of its file and the input.
 type Call = (CommandLine<'static>, &'static [u8], &'static [u8]);
 
-/// Returns the status of a call if `flushes` flushes succeed, and how many bytes are passed on. A command line without a
-/// file isn't performed.
+/// Returns the status of a call if only `flushes` flushes succeed, and the number of bytes that are passed on. A
+/// command line without a file isn't performed.
 fn outcome_of(alloc: Global, call: Call, flushes: u32) -> (u8, usize) {
     let (line, file, bytes) = call;
     let Some(_path) = line.file() else {
@@ -63,7 +63,8 @@ fn outcome_of(alloc: Global, call: Call, flushes: u32) -> (u8, usize) {
     (status, printed.passed_on)
 }
 
-/// Calls, how many flushes succeed, the status, and how many bytes are passed on.
+/// A call, the number of flushes that succeed, the expected status, and the expected number of bytes that are passed
+/// on.
 static CALLS: &[(Call, u32, (u8, usize))] = &[
     (
         (CHECK, b"", b""),
@@ -78,7 +79,7 @@ static CALLS: &[(Call, u32, (u8, usize))] = &[
     ((RENAME_WORD, READS, b""), 1, (1, 0)),
 ];
 
-/// The number of the first call that ends otherwise.
+/// Returns the number of the first call with another outcome. None if there is none.
 fn first_astray(alloc: Global, calls: &[(Call, u32, (u8, usize))]) -> Option<usize> {
     for i in 0..calls.len() {
         if outcome_of(alloc, calls[i].0, calls[i].1) != calls[i].2 {
@@ -94,7 +95,7 @@ fn commands_print_what_they_flush(rt: HostRuntime) {
     assert!(rt; number.is_none(), "call {number:?}");
 }
 
-/// What a command line requests, in a word.
+/// Returns the command of a command line, in a word.
 fn word_of(line: &CommandLine<'_>) -> &'static str {
     match line {
         CommandLine::Serve => "serve",

@@ -2,8 +2,8 @@
 
 use std::io::{self, Read, Write};
 
-/// A reader of these bytes, which returns at most `most` of them in a call. It fails when its calls
-/// are used up.
+/// A reader of these bytes, which returns at most `most` of them in each call. It fails when its
+/// calls are used up.
 #[derive(Drop)]
 pub struct Source<'a> {
     pub bytes: &'a [u8],
@@ -22,8 +22,8 @@ impl<'a> Read for Source<'a> {
     }
 }
 
-/// The number of bytes that were written, how many of them are passed on, how many more can be
-/// written, and the number of flushes left.
+/// The counts of a writer: the bytes that were written, the bytes of these that are passed on, the
+/// bytes that can still be written, and the flushes left.
 #[derive(Clone, Copy)]
 pub struct Count {
     pub written: usize,
@@ -33,7 +33,7 @@ pub struct Count {
 }
 
 impl Count {
-    /// Returns the count before anything is written.
+    /// Returns the counts before anything is written.
     pub fn new(capacity: usize, flushes_left: u32) -> Count {
         Count {
             written: 0,
@@ -44,8 +44,8 @@ impl Count {
     }
 }
 
-/// A writer that only counts. It fails if nothing more can be written, and passes written bytes on
-/// only when it is flushed.
+/// A writer that only counts bytes. It fails if no more bytes can be written. It passes written
+/// bytes on only when it is flushed.
 #[derive(Drop)]
 pub struct Counter<'a> {
     pub count: &'a mut Count,

@@ -1,5 +1,5 @@
-//! Tests of `serve`, of the commands and of command lines. They contain examples with known
-//! answers, and failing devices. The output of the built program is tested end to end.
+//! Tests `serve`, the commands and command lines. The tests are examples with known answers, and
+//! failing devices. The output of the built program is tested end to end.
 #![tactic(auto)]
 
 #[cfg(test)]

@@ -1,4 +1,4 @@
-//! Conversations with failing devices, and with a writer that passes bytes on only when it is
+//! Tests conversations with failing devices, and with a writer that passes bytes on only when it is
 //! flushed.
 
 use crate::devices::{Count, Counter, Source};
@@ -6,7 +6,7 @@ use ob0_session::{DeviceFault, InputDevice, Noted, OutputDevice, ServeFault, ser
 use std::alloc::Global;
 use std::process::Abort;
 
-/// The first conversation.
+/// A conversation from `initialize` to `exit`.
 const INPUT: &[u8] = b"Content-Length: 75\r\n\r\n\
     {\"id\":1,\"jsonrpc\":\"2.0\",\"method\":\"initialize\",\"params\":{\"capabilities\":{}}}\
     Content-Length: 171\r\n\r\n{\"jsonrpc\":\"2.0\",\"method\":\"textDocument/didOpen\",\
@@ -21,7 +21,7 @@ const BAD_HEAD: &[u8] = b"Content-Length: 75\r\n\r\n\
     Content-Length: x\r\n\r\n";
 
 /// A conversation and its expected end. The first `len` of its bytes are read, by at most `reads`
-/// reads of at most `given` bytes. Its writer accepts `capacity` bytes and `flushes` flushes.
+/// reads of at most `given` bytes each. Its writer accepts `capacity` bytes and `flushes` flushes.
 struct ServeEnd {
     bytes: &'static [u8],
     len: usize,
@@ -32,7 +32,7 @@ struct ServeEnd {
     result: Result<u8, ServeFault>,
 }
 
-/// `BYTES to LEN, GIVEN a read, READS; CAPACITY, FLUSHES => RESULT;` for each conversation.
+/// Conversations: `BYTES to LEN, GIVEN, READS; CAPACITY, FLUSHES => RESULT;` for each.
 macro_rules! ends {
     ($($bytes:ident to $len:expr, $given:expr, $reads:expr; $capacity:expr, $flushes:expr => $result:expr;)*) => {
         &[$(ServeEnd { bytes: $bytes, len: $len, given: $given, reads: $reads, capacity: $capacity, flushes: $flushes,
@@ -51,7 +51,7 @@ static ENDS: &[ServeEnd] = ends![
     BAD_HEAD to 118, 40, u32::MAX; 512, 3 => Err(ServeFault::BadHead);
 ];
 
-/// The end of a conversation, which of its devices recorded a failure, and whether everything was
+/// The end of a conversation, with the devices that recorded a failure, and whether everything was
 /// flushed.
 #[derive(Clone, Copy)]
 struct Found {
@@ -61,7 +61,8 @@ struct Found {
     flushed: bool,
 }
 
-/// Holds a conversation with this writer, and returns how it ended.
+/// Holds a conversation with a writer that has these counts, and returns how the conversation
+/// ended.
 fn converse(alloc: Global, end: &ServeEnd, count: &mut Count) -> Found {
     let mut reader = Noted::new(Source {
         bytes: &end.bytes[..end.len.min(end.bytes.len())],
@@ -78,15 +79,16 @@ fn converse(alloc: Global, end: &ServeEnd, count: &mut Count) -> Found {
     }
 }
 
-/// Returns whether the devices report that everything was flushed, and which of them failed.
+/// Returns true if everything was flushed, and if the devices recorded a failure exactly if the
+/// result says so.
 fn is_reported(found: Found) -> bool {
     found.read_failed == (found.result == Err(ServeFault::Read))
         && found.write_failed == (found.result == Err(ServeFault::Write))
         && found.flushed
 }
 
-/// Returns whether a conversation ends as expected if this many flushes succeed. If a flush is
-/// missing, a write has failed; otherwise all written bytes are passed on.
+/// Returns true if a conversation ends as expected if only this many flushes succeed. If a flush is
+/// missing, the result must be `Write`; otherwise all written bytes are passed on.
 fn ends_flushed(alloc: Global, end: &ServeEnd, flushes: u32) -> bool {
     let mut count = Count::new(end.capacity, flushes);
     let found = converse(alloc, end, &mut count);
@@ -96,7 +98,7 @@ fn ends_flushed(alloc: Global, end: &ServeEnd, flushes: u32) -> bool {
     found.result == end.result && is_reported(found) && count.passed_on == count.written
 }
 
-/// Returns whether a conversation needs each of its flushes.
+/// Returns true if a conversation needs each of its flushes.
 fn needs_each_flush(alloc: Global, end: &ServeEnd) -> bool {
     for flushes in 0..end.flushes {
         if !ends_flushed(alloc, end, flushes) {
@@ -106,7 +108,7 @@ fn needs_each_flush(alloc: Global, end: &ServeEnd) -> bool {
     ends_flushed(alloc, end, end.flushes)
 }
 
-/// Returns the number of the first conversation that ends otherwise.
+/// Returns the number of the first conversation that doesn't end as expected. None if all do.
 fn first_astray(alloc: Global, ends: &[ServeEnd]) -> Option<usize> {
     for i in 0..ends.len() {
         if !needs_each_flush(alloc, &ends[i]) {
@@ -122,7 +124,7 @@ fn each_piece_is_flushed_at_its_end(rt: HostRuntime) {
     assert!(rt; number.is_none(), "conversation {number:?}");
 }
 
-/// Returns whether a reader's bytes are passed on unchanged, and its failure is recorded.
+/// Returns true if a reader's bytes are passed on unchanged, and its failure is recorded.
 fn is_reader_noted() -> bool {
     let mut reader = Noted::new(Source {
         bytes: b"ab",
@@ -134,7 +136,7 @@ fn is_reader_noted() -> bool {
     is_read && reader.read(&mut piece) == Err(DeviceFault) && reader.failed()
 }
 
-/// Returns whether a writer's bytes are passed on unchanged, and its failure is recorded.
+/// Returns true if a writer's bytes are passed on unchanged, and its failure is recorded.
 fn is_writer_noted() -> bool {
     let mut count = Count::new(1, 1);
     let mut writer = Noted::new(Counter { count: &mut count });
@@ -147,7 +149,7 @@ fn a_device_that_failed_is_noted(rt: HostRuntime) {
     assert!(rt; is_reader_noted() && is_writer_noted());
 }
 
-/// The faults with which a conversation breaks off, and the status of the program for each.
+/// The faults that end a conversation, with the status of the program for each.
 static STATUSES: &[(ServeFault, u8)] = &[
     (ServeFault::BadHead, 3),
     (ServeFault::Truncated, 3),

@@ -1,25 +1,27 @@
-//! Events of worlds as tables write them, and what is seen of them. What they take for themselves is allocated a
-//! second time where that fails, since only one allocation does.
+//! Defines the events of worlds as tables write them, and the reports on them.
+//!
+//! If an allocation for the events themselves fails, they are made a second time. That succeeds, since only one
+//! allocation of a run fails.
 
 use ob0_text::{Change, Indent, Position, Range, TextStore};
 use ob0_world::{Ask, Event, Seen, World, WorldFault};
 use std::alloc::{AllocError, Global};
 
-/// One event, about the document `u`.
+/// One event; it is about the document `u`, unless it is `Other`.
 #[derive(Clone, Copy)]
 pub enum Act {
-    /// One event, about another document, `v`.
+    /// The same event, about another document, `v`.
     Other(&'static Act),
     Open(&'static str),
-    /// A change with no changes in it.
+    /// A change notification without changes.
     Touch,
-    /// Another text in place of what is at these characters of a line.
+    /// A new text for the characters of a line from the first number to the second: line, start, end, text.
     Write(u64, u64, u64, &'static str),
     Close,
     Rename(u64, u64, &'static str),
     InlineHere(u64, u64),
     InlineAll(u64, u64),
-    /// With two spaces a level.
+    /// Formatting with two spaces a level.
     Format,
     Serve,
     Take,
@@ -27,46 +29,46 @@ pub enum Act {
     Discard(u64),
 }
 
-/// What is seen of an event.
+/// The report on an event.
 #[derive(Clone, Copy, PartialEq, Eq)]
 pub enum Sight {
     Nothing,
     Sent,
-    /// The server took a message, and sent this many.
+    /// The server took a message and sent this many messages.
     Served(usize),
-    /// The editor took diagnostics, of a well-typed text or of another.
+    /// The editor took a list of diagnostics of `u`. True if the list is empty.
     Published(bool),
-    /// Those of the other document.
+    /// The editor took a list of diagnostics of `v`. True if the list is empty.
     PublishedOther(bool),
-    /// The editor took the answer to an ask, with edits or without.
+    /// The editor took the answer to the ask with this number. True if the answer has edits.
     Answered(u64, bool),
     Applied(u64),
     Dropped(u64),
 }
 
-/// What happens where client and server count positions in a unit, and what has come of it in the end.
+/// A list of events in a world that counts positions in this unit, with the expected reports and results.
 pub struct Story {
     pub name: &'static str,
     pub unit: ob0_text::Unit,
-    /// Each event, and what is to be seen of it.
+    /// Each event with its expected report.
     pub moments: &'static [(Act, Sight)],
-    /// The texts before and after each edit that was applied.
+    /// The texts before and after each edit that is applied.
     pub applied: &'static [(&'static str, &'static str)],
-    /// The version and text of each publication of diagnostics, and whether it was empty.
+    /// The version and text of each published list of diagnostics, and whether the list is empty.
     pub made: &'static [(i64, &'static str, bool)],
 }
 
-/// How something goes step by step.
+/// The course that some steps took.
 #[derive(Clone, Copy, PartialEq, Eq)]
 pub enum Way {
     AsTold,
-    /// As written up to an allocation that fails, after which each step finds that all has ended.
+    /// As expected up to an allocation that fails. Each later step returns that the world or the session has ended.
     Refused,
     Ended,
     Otherwise,
 }
 
-/// How the steps go up to one that goes so.
+/// Returns the course of some steps and one more step.
 pub fn join_ways(before: Way, next: Way) -> Way {
     match (before, next) {
         (Way::AsTold, Way::Ended) => Way::Otherwise,
@@ -80,7 +82,7 @@ fn at(line: u64, character: u64) -> Position {
     Position { line, character }
 }
 
-/// Another text in place of what is in a range.
+/// Returns one change that replaces a range by a text.
 fn changes(alloc: Global, range: Range, text: &str) -> Result<Vec<Change>, AllocError> {
     let text = String::from_str(alloc, text)?;
     let mut changes = Vec::new(alloc);
@@ -94,7 +96,7 @@ fn rename_ask(alloc: Global, position: Position, name: &str) -> Result<Ask, Allo
     Ok(Ask::Rename { position, name })
 }
 
-/// What an act requests of the server.
+/// Returns the ask of an act; an act that isn't an ask gives a formatting.
 fn ask_of(alloc: Global, act: Act) -> Result<Ask, AllocError> {
     match act {
         Act::Rename(line, character, name) => rename_ask(alloc, at(line, character), name),
@@ -110,7 +112,7 @@ fn ask_of(alloc: Global, act: Act) -> Result<Ask, AllocError> {
     }
 }
 
-/// An event about a document.
+/// Returns the event for an act about a document; an act that isn't a change, an open or a close gives an ask.
 fn event_about(alloc: Global, uri: String, act: Act) -> Result<Event, AllocError> {
     match act {
         Act::Open(text) => {
@@ -153,7 +155,7 @@ fn events_of(alloc: Global, moments: &[(Act, Sight)]) -> Result<Vec<Event>, Allo
     Ok(events)
 }
 
-/// The events of a story.
+/// Returns the events of a story. If an allocation fails, it tries once more.
 pub fn events_again(alloc: Global, story: &Story) -> Result<Vec<Event>, AllocError> {
     match events_of(alloc, story.moments) {
         Ok(events) => Ok(events),
@@ -174,7 +176,7 @@ fn sight_of(seen: &Seen) -> Sight {
     }
 }
 
-/// How an event goes in a world.
+/// Makes an event in a world, and returns whether its report is the expected one or why it failed.
 pub fn way_of_event<T: TextStore>(world: &mut World<T>, event: &Event, wanted: Sight) -> Way {
     if world.steps() > 1_000_000 {
         return Way::Otherwise;

@@ -1,5 +1,5 @@
-//! Tests of sessions step by step, and of worlds of an editor and a server. They are examples with known answers, and
-//! allocations that fail.
+//! Tests sessions step by step, and worlds of an editor and a server. The tests are examples with known answers, also
+//! with failing allocations.
 #![tactic(auto)]
 
 #[cfg(test)]

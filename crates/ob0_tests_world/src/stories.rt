@@ -1,4 +1,5 @@
-//! What happens in worlds of an editor and a server: names, constants, layouts, and answers that are dropped.
+//! Lists the events of worlds of an editor and a server: renames, inlined constants, formattings, and discarded
+//! answers.
 
 use crate::acts::Act::*;
 use crate::acts::Sight::*;
@@ -15,7 +16,7 @@ const LAID_OUT: &str =
     "MODULE M;\nVAR\n  n: INTEGER;\n  PROCEDURE P;\n  BEGIN\n    Write(n)\n  END P;\n\
     BEGIN\n  Read(n);\n  WHILE n > 0 DO\n    n := n - 1;\n    WriteLn\n  END;\n  P\nEND M.\n";
 
-/// Nothing is laid out here, and there are comments.
+/// Nothing in this text is formatted, and it has comments.
 const CROWDED: &str =
     "MODULE M;VAR x:INTEGER;BEGIN x:=-1;IF x<0 THEN Write(x)(* a (* b *) c *)END;WriteLn END M.(* end *)";
 
@@ -23,7 +24,7 @@ const CROWDED_LAID_OUT: &str =
     "MODULE M;\nVAR\n  x: INTEGER;\nBEGIN\n  x := -1;\n  IF x < 0 THEN\n    \
     Write(x) (* a (* b *) c *)\n  END;\n  WriteLn\nEND M. (* end *)\n";
 
-/// No module: the full stop is missing.
+/// This text isn't a module: the full stop is missing.
 const FAULTY_TEXT: &str = "MODULE M; END M";
 
 const NAME: Act = Rename(1, 4, "k");
@@ -37,7 +38,7 @@ const INLINED_HERE: &str = "MODULE M;\nCONST c = -2147483647 - 1;\nVAR x: INTEGE
 const INLINED_EVERYWHERE: &str =
     "MODULE M;\nCONST \nVAR x: INTEGER;\nBEGIN x := 0 + (-2147483647 - 1); Write(x) END M.\n";
 
-/// What is written in place of the constant would be bound to a variable.
+/// The word that would be written in place of the constant would be bound to a variable.
 const SHADOWED: &str =
     "MODULE M;\nCONST on = TRUE;\nPROCEDURE P; VAR TRUE, b: BOOLEAN; BEGIN b := on END P;\nBEGIN P END M.\n";
 
@@ -45,15 +46,15 @@ const WIDE: &str = "MODULE M;\nVAR (* 😀 *) n: INTEGER;\nBEGIN (* 😀 *) n :=
 
 const WIDE_RENAMED: &str = "MODULE M;\nVAR (* 😀 *) k: INTEGER;\nBEGIN (* 😀 *) k := 1 END M.\n";
 
-/// The first name written over: the second is that of nothing.
+/// The first name is overwritten: the second one is then undeclared.
 const WIDE_WRITTEN: &str = "MODULE M;\nVAR (* 😀 *) k: INTEGER;\nBEGIN (* 😀 *) n := 1 END M.\n";
 
-/// Moments: `ACT => SIGHT` for each.
+/// Moments: `ACT => REPORT,` for each.
 macro_rules! moments {
     ($($act:expr => $sight:expr),*) => { &[$(($act, $sight)),*] };
 }
 
-/// Stories: `NAME, UNIT, MOMENTS, [BEFORE => AFTER of each edit], [VERSION, TEXT => whether its diagnostics are empty];`.
+/// Stories: `NAME, UNIT, MOMENTS, [BEFORE => AFTER of each edit], [VERSION, TEXT => EMPTY of each publication];`.
 macro_rules! stories {
     ($($name:expr, $unit:expr, $moments:expr, [$($before:expr => $after:expr),*],
         [$($version:expr, $text:expr => $empty:expr);*];)*) => {
@@ -75,12 +76,12 @@ const REOPENED: &[(Act, Sight)] = moments![
     Apply(1) => Nothing
 ];
 
-/// All of them. (An expression that names the table itself is as expensive as the table is long.)
+/// Returns all stories. (An expression that refers to the table itself is as expensive to prove as the table is long.)
 pub fn stories() -> &'static [Story] {
     STORIES
 }
 
-/// The first one is played by itself too.
+/// Two more tests run only the first story.
 static STORIES: &[Story] = stories![
     "another name is applied", Utf16, NAMED,
         [COUNTS => RENAMED], [1, COUNTS => true; 2, RENAMED => true];

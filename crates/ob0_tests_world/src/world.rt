@@ -1,4 +1,4 @@
-//! Whole lists of events of client and server, step by step and played, in both units of positions, over both stores.
+//! Tests whole lists of events, step by step and by `play`, in both units of positions and over both stores.
 
 use crate::acts::{Story, Way, events_again, join_ways, way_of_event};
 use crate::stories::stories;
@@ -7,7 +7,7 @@ use ob0_world::{Applied, Event, Made, PlayFault, Played, World, WorldFault};
 use std::alloc::{AllocError, Global};
 use std::process::Abort;
 
-/// How a story's events are made: one by one, over a store, or played.
+/// The way in which a story's events are made: one by one over a store of lines or of whole texts, or by `play`.
 #[derive(Clone, Copy)]
 enum Manner {
     OverLines,
@@ -15,14 +15,14 @@ enum Manner {
     Played,
 }
 
-/// How a story goes, how many of its events are made, and how many edits and publications come of them.
+/// The course of a story, the number of its events that are made, and the numbers of edits and publications.
 #[derive(Clone, Copy)]
 struct Outcome(Way, u64, usize, usize);
 
-/// Nothing comes of a story.
+/// The outcome of a story that isn't as expected.
 const NOTHING: Outcome = Outcome(Way::Otherwise, 0, 0, 0);
 
-/// Whether edits are the first of these.
+/// Returns true if the edits are the first of the expected edits.
 fn are_first_edits(found: &[Applied], wanted: &[(&str, &str)]) -> bool {
     if found.len() > wanted.len() {
         return false;
@@ -36,7 +36,7 @@ fn are_first_edits(found: &[Applied], wanted: &[(&str, &str)]) -> bool {
     true
 }
 
-/// Whether publications are the first of these.
+/// Returns true if the publications are the first of the expected publications.
 fn are_first_publications(found: &[Made], wanted: &[(i64, &str, bool)]) -> bool {
     if found.len() > wanted.len() {
         return false;
@@ -53,7 +53,8 @@ fn are_first_publications(found: &[Made], wanted: &[(i64, &str, bool)]) -> bool 
     true
 }
 
-/// What comes of some events, where the edits and publications are the first that a story is to leave.
+/// Returns the outcome of some events if the edits and publications are the first that are expected. Otherwise
+/// `NOTHING`.
 fn outcome_of(story: &Story, way: Way, steps: u64, played: &Played) -> Outcome {
     let are_edits = are_first_edits(played.applied.as_slice(), story.applied);
     if !are_edits || !are_first_publications(played.made.as_slice(), story.made) {
@@ -69,7 +70,7 @@ fn begin_world<T: TextStore>(alloc: Global, unit: Unit) -> Result<World<T>, Worl
     }
 }
 
-/// How the events of a story go in a world.
+/// Makes the events of a story in a world, and returns their course.
 fn way_through<T: TextStore>(world: &mut World<T>, story: &Story, events: &[Event]) -> Way {
     let mut way = Way::AsTold;
     for i in 0..events.len().min(story.moments.len()) {
@@ -78,7 +79,7 @@ fn way_through<T: TextStore>(world: &mut World<T>, story: &Story, events: &[Even
     way
 }
 
-/// What comes of a story's events that are made one by one.
+/// Makes a story's events one by one, and returns the outcome.
 fn step_through<T: TextStore>(alloc: Global, story: &Story, events: &[Event]) -> Outcome {
     let Ok(mut world) = begin_world::<T>(alloc, story.unit) else {
         return Outcome(Way::Refused, 0, 0, 0);
@@ -95,7 +96,7 @@ fn play(alloc: Global, unit: Unit, events: &[Event]) -> Result<Played, PlayFault
     }
 }
 
-/// What comes of a story's events that are played.
+/// Plays a story's events by `play`, and returns the outcome.
 fn play_through(alloc: Global, story: &Story, events: &[Event]) -> Outcome {
     match play(alloc, story.unit, events) {
         Ok(played) => outcome_of(story, Way::AsTold, events.len() as u64, &played),
@@ -103,7 +104,7 @@ fn play_through(alloc: Global, story: &Story, events: &[Event]) -> Outcome {
     }
 }
 
-/// What comes of a story up to an event at which an allocation fails, or to its end.
+/// Runs a story, and returns the outcome up to an event at which an allocation fails, or up to its end.
 fn run_story(alloc: Global, story: &Story, manner: Manner) -> Outcome {
     match events_again(alloc, story) {
         Ok(events) => match manner {
@@ -115,7 +116,7 @@ fn run_story(alloc: Global, story: &Story, manner: Manner) -> Outcome {
     }
 }
 
-/// Whether a story is run to its end, and leaves all that it is to leave.
+/// Returns true if a story runs to its end and has all the expected results.
 fn ends_as_written(alloc: Global, story: &Story, manner: Manner) -> bool {
     let Outcome(way, steps, applied, made) = run_story(alloc, story, manner);
     way == Way::AsTold
@@ -124,7 +125,7 @@ fn ends_as_written(alloc: Global, story: &Story, manner: Manner) -> bool {
         && made == story.made.len()
 }
 
-/// Whether a story goes as it is written, or, where an allocation may fail, up to there.
+/// Returns true if a story runs as expected. If an allocation may fail, it need run only up to there.
 fn goes_as_written(alloc: Global, story: &Story, may_fail: bool) -> bool {
     if may_fail {
         return run_story(alloc, story, Manner::OverLines).0 != Way::Otherwise;
@@ -134,7 +135,7 @@ fn goes_as_written(alloc: Global, story: &Story, may_fail: bool) -> bool {
         && ends_as_written(alloc, story, Manner::Played)
 }
 
-/// The name of the first story that goes otherwise; of none the empty one.
+/// Returns the name of the first story that doesn't run as expected, or the empty string if all do.
 fn first_astray(alloc: Global, may_fail: bool) -> &'static str {
     for story in stories() {
         if !goes_as_written(alloc, story, may_fail) {
@@ -163,8 +164,8 @@ fn run_first(alloc: Global, manner: Manner) -> Outcome {
     }
 }
 
-// With the same allocation failing this prints what the test below prints: `make test` compares the two, since nothing
-// here knows at which event it failed.
+// If the same allocation fails, this prints what the next test prints. `make test` compares the two outputs, because
+// the tests don't know at which event the allocation failed.
 #[test]
 fn a_refused_event_leaves_what_was_played_before(rt: HostRuntime) {
     let Outcome(way, steps, applied, made) = run_first(rt.alloc(), Manner::Played);

@@ -1,9 +1,8 @@
--- What a session promises, in the words of client and server.
--- `served` is the one lemma. A request with edits is an arm of `request_served` that goes through `about_document`,
--- with a lemma for a text in step (`formatted`, `renamed`, `inlined`). What is answered is stated in the session's own
--- words (`GivesEdits`, `Refuses` by cases of the ask), so it is passed on as it is. Both asks to inline send the same
--- request: of the list of actions that one is read whose title was requested (`actions_read_back`), which is none where
--- it isn't offered.
+-- Proves that the replies of a session, by its contract, are the replies of the model's server. The main lemma is
+-- `served`. `request_served` has a case for each request with edits, which uses `about_document` and a lemma for a text
+-- in step: `formatted`, `renamed` or `inlined`. Answers are stated in the session's own words (`GivesEdits`, `Refuses`
+-- by cases of the ask), so they are passed on unchanged. Both asks to inline send the same request. The editor reads
+-- the action with the title that it asked for (`actions_read_back`), if that is offered.
 use Rattle.std.proofs.Common.{◌≡◌, ◌∙◌, ℕ, Bool, true, false, cond, List, [], ◌∷◌, length, refl, sym, ap, subst, inl, inr, arith, ◌<◌}
 use Rattle.std.specs.Prelude.{◌⊎◌, ◌&&◌, min, ℤ, Vec, All, Option, Some, None, is_some, map, fold, filter_map, option_map, option_and_then, unwrap_or, codes, Ok}
 use Rattle.std.specs.List.{cons_option}
@@ -62,11 +61,11 @@ same_json : (content : List ℕ) (json : Option Data) (d : Data) → ReadsConten
 same_json content (Some e) d one other = sym one.1 ∙ other.1
 same_json content None d one other = sym (one other.0) ∙ other.1
 
--- the answers of a session that runs
+-- A running session answers by its reaction.
 pub going_on : (before after : ServerState) (content : List ℕ) (sent : List (List ℕ)) → before.phase ≡ Running → Answers before content sent after → AnswersGoingOn before content sent after
 going_on before after content sent running h = subst (λ phase. AnswersInState phase before content sent after) running h
 
--- what comes of a content with this meaning
+-- A content with this meaning has the reaction to that meaning.
 pub reacts_so : (before after : ServerState) (content : List ℕ) (sent : List (List ℕ)) (d : Data) → AnswersGoingOn before content sent after → ReadsContent content (Some d) → (after ≡ (react before (meaning_of d)).after) × SaysReply (react before (meaning_of d)).say sent
 reacts_so before after content sent d (json, reads, answer) known =
     subst (λ j. (after ≡ (react before (meaning j)).after) × SaysReply (react before (meaning j)).say sent) (same_json content json d reads known) answer
@@ -104,7 +103,7 @@ reports_right unit text ds (reported, reporting, is) =
 
 -- ---- documents
 
--- a document that was changed
+-- After a change the document with this uri is the changed one, if it was open.
 changed_at : (held : OpenDocuments) (uri : List ℕ) (version : ℤ) (how : List TextChange) → document_at (changed held uri version how) uri ≡ option_map (changed_document held.unit version how) (document_at held uri)
 changed_at held uri version how = go (document_at held uri) refl
   where
@@ -127,11 +126,11 @@ edits_read_back : (edits : List Edit) → edits_in (items_of (map edit_value edi
 edits_read_back [] = refl
 edits_read_back (e ∷ edits) = ap (option_map (λ es. replacement_of e ∷ es)) (edits_read_back edits)
 
--- nothing is returned for a text that isn't a well-typed module
+-- An ask about a text that isn't a well-typed module has no edits as its answer.
 unfit_answer : (unit : Unit) (text : List ℕ) (ask : Ask) → ¬ IsWellTypedModule (utf8 text) → AnswersFor unit text ask []
 unfit_answer unit text ask unfit = inr (inr (λ fits. unfit (well_typed_module text fits)), refl)
 
--- edits of a versioned document are read back
+-- The edits of a document with a version are read back from the WorkspaceEdit that has them.
 workspace_read_back : (client : Client) (uri : List ℕ) (version : ℤ) (edits : List Edit) → client.takes_document_changes ≡ true
     → option_and_then edits_in (workspace_items (workspace_edit client uri version edits)) ≡ Some (replacements edits)
 workspace_read_back client uri version edits takes = go client.takes_document_changes takes
@@ -146,19 +145,19 @@ renames_read_back : (id : Data) (position : Position) (name uri : List ℕ) (ver
     → edits_for (rename position name) (result_message id (workspace_edit client uri version edits)) ≡ replacements edits
 renames_read_back id position name uri version edits client takes = ap (λ o. unwrap_or o []) (workspace_read_back client uri version edits takes)
 
--- the request as the session takes it
+-- returns a rename request in the session's words
 abbrev rename_requested : Client → Data → List ℕ → Position → List ℕ → ℤ → RequestedRename
 rename_requested client id uri position name version =
     record { id = id; client = client; at = record { uri = uri; position = position }; version = version; new = name }
 
 -- ---- inlining
 
--- what an editor asks for of each kind
+-- returns the ask to inline here or everywhere
 abbrev pub inlining_at : Inlining → Position → Ask
 inlining_at Here position = inline_here position
 inlining_at Everywhere position = inline_all position
 
--- the requested one of what is offered
+-- returns the one of two values that belongs to this kind of inlining
 abbrev pub requested_for : {A : Type 0} → Inlining → A → A → A
 requested_for Here here everywhere = here
 requested_for Everywhere here everywhere = everywhere
@@ -167,7 +166,7 @@ abbrev edits_offered : Option (Vec Edit Global) → List Replacement
 edits_offered (Some edits) = replacements edits.items
 edits_offered None = []
 
--- of the actions that are offered that with the title is read
+-- The editor reads the edits of the action that it asked for from the list of offered actions.
 actions_read_back : (how : Inlining) (position : Position) (requested : RequestedActions) (here everywhere : Option (Vec Edit Global)) → requested.client.takes_document_changes ≡ true
     → edits_for (inlining_at how position) (result_message requested.id (actions_value requested here everywhere)) ≡ edits_offered (requested_for how here everywhere)
 actions_read_back Here position requested (Some edits) everywhere takes = ap (λ o. unwrap_or o []) (workspace_read_back requested.client requested.uri requested.version edits.items takes)
@@ -182,7 +181,7 @@ pub none_read_back : (how : Inlining) (position : Position) (id : Data) → edit
 none_read_back Here position id = refl
 none_read_back Everywhere position id = refl
 
--- what is offered is what is answered: the edits of the requested one, or none for the reason why it isn't offered
+-- An inlining that is offered, or not offered for a reason, is the answer to the ask.
 offered_here : (unit : Unit) (text : List ℕ) (position : Position) (o : Option (Vec Edit Global)) → Offers Here unit text (place_at unit text position) o → AnswersFor unit text (inline_here position) (edits_offered o)
 offered_here unit text position None refused = inr (inl refused, refl)
 offered_here unit text position (Some found) inlines = inl (found.items, (found, inlines, refl), refl)
@@ -194,7 +193,7 @@ offered_everywhere unit text position (Some found) inlines = inl (found.items, (
 least : (n : ℕ) → min n n ≡ n
 least n = omega arith
 
--- the place of an empty range is that of its position
+-- The offset of an empty range is the offset of its position.
 place_is : (unit : Unit) (text : List ℕ) (position : Position) → actions_offset unit text (empty_at position) ≡ place_at unit text position
 place_is unit text position = least (place_at unit text position)
 
@@ -203,17 +202,17 @@ requested_offered : (how : Inlining) (unit : Unit) (text : List ℕ) (position :
 requested_offered Here unit text position offset here everywhere is one other = offered_here unit text position here (subst (λ place. Offers Here unit text place here) is one)
 requested_offered Everywhere unit text position offset here everywhere is one other = offered_everywhere unit text position everywhere (subst (λ place. Offers Everywhere unit text place everywhere) is other)
 
--- the request as the session takes it
+-- returns the request for actions at a position, of all kinds, in the session's words
 abbrev pub actions_requested_at : Client → Data → List ℕ → Position → ℤ → RequestedActions
 actions_requested_at client id uri position version =
     record { id = id; client = client; uri = uri; version = version; range = empty_at position; only = None }
 
--- the request for actions in a range, of some kinds
+-- returns the request for actions in a range, of some kinds, in the session's words
 abbrev pub actions_requested_in : Client → Data → List ℕ → Range → Option (List (List ℕ)) → ℤ → RequestedActions
 actions_requested_in client id uri range only version =
     record { id = id; client = client; uri = uri; version = version; range = range; only = only }
 
--- a request of this editor is looked at by its method, while the session runs
+-- A running session answers a request of this editor by its method.
 begun : (ask : Ask) (s : ServerState) (params id : Data) → requested_in Running s id (method_of ask) params ≡ answer_method s id (method_of ask) params
 begun (rename position name) s params id = refl
 begun (inline_here position) s params id = refl
@@ -231,7 +230,7 @@ request_reaction id uri ask before after content sent running is h =
 -- ---- what the editor reads
 
 module _ (number_of : Data → Option ℕ) (requested : List SentAsk) where
-  -- what the editor understands of the contents that were sent
+  -- states that the editor understands all these contents, and that these are their messages
   pub record Heard (sent : List (List ℕ)) (said : List ToEditor) : Type 0 where
     pub each : All (λ content. (m : ToEditor) × (read_so number_of requested content ≡ Some m)) sent
     pub all : filter_map (read_so number_of requested) sent ≡ said
@@ -253,7 +252,7 @@ module _ (number_of : Data → Option ℕ) (requested : List SentAsk) where
 
   -- ---- publications
 
-  -- what was sent of a notification
+  -- states that these contents say what a notification publishes
   pub record Noted (held : OpenDocuments) (uri : List ℕ) (o : Option Document) (sent : List (List ℕ)) : Type 0 where
     pub said : List ToEditor
     pub heard : Heard sent said
@@ -274,7 +273,7 @@ module _ (number_of : Data → Option ℕ) (requested : List SentAsk) where
   publishes_now held uri version (Some text) sent at fits saying = publishes_step held uri version text sent at fits saying
   publishes_now held uri version None sent at fits saying = record { said = []; heard = heard_none sent saying; replies = (refl, refl) }
 
-  -- what is said of the document that is held now
+  -- The contents that are sent for a document publish the document that is now open under that uri.
   noted_at : (held : OpenDocuments) (uri : List ℕ) (o : Option Document) (sent : List (List ℕ)) → document_at held uri ≡ o → (SaysReply (published held.unit uri o) sent → Noted held uri o sent)
       → SaysReply (published held.unit uri (document_at held uri)) sent → Noted held uri (document_at held uri) sent
   noted_at held uri o sent at then_noted saying =
@@ -282,7 +281,7 @@ module _ (number_of : Data → Option ℕ) (requested : List SentAsk) where
 
   -- ---- what may be sent
 
-  -- the server has taken a message, and sent this
+  -- states that the server has taken a message and sent these contents, which are its replies
   pub record Served (m : ToServer) (before after : ServerState) (sent : List (List ℕ)) : Type 0 where
     pub phase : after.phase ≡ Running
     pub client : after.client ≡ before.client
@@ -291,7 +290,7 @@ module _ (number_of : Data → Option ℕ) (requested : List SentAsk) where
     pub heard : Heard sent said
     pub replies : Replies before.held m said (option_to_list (made_first after.held said))
 
-  -- the reaction to a notification, and what it saying
+  -- The reaction to a notification sends the replies of the model's server.
   note_served : (note : DocumentEvent) (before after : ServerState) (sent : List (List ℕ)) → before.phase ≡ Running → HasVersion note → after ≡ (apply_notification before (sent_as note)).after → SaysReply (apply_notification before (sent_as note)).say sent
       → Served (notifies note) before after sent
   note_served (Opened uri version text) before after sent running fits is saying =
@@ -328,24 +327,24 @@ module _ (number_of : Data → Option ℕ) (requested : List SentAsk) where
       }
       go false was saying = record { phase = running; client = refl; held = refl; said = []; heard = heard_none sent saying; replies = (sym (ap (λ b. cond b (publishes uri None true ∷ []) []) was), refl) }
 
-  -- ask k is this one, and has this id
+  -- states that ask k is this one and has this id
   record Asks (id : Data) (k : ℕ) (uri : List ℕ) (ask : Ask) : Type 0 where
     numbered : number_of id ≡ Some k
     is : IsAsk requested k uri ask
 
-  -- an answer with this id
+  -- The editor reads the answer with this id as the answer to ask k.
   answered : (id : Data) (k : ℕ) (uri : List ℕ) (ask : Ask) (answer : Data) → Asks id k uri ask → option_and_then (answer_to requested answer) (number_of id) ≡ Some (answers k (edits_for ask answer))
   answered id k uri ask answer of =
       ap (option_and_then (answer_to requested answer)) of.numbered
       ∙ ap (option_map (λ (a : SentAsk). answers k (edits_for a.ask answer))) of.is.is ∙ ap (λ x. Some (answers k (edits_for x answer))) of.is.asks_this
 
-  -- the answer to an ask
+  -- states that the contents are the answer to ask k about this document
   record Answered (k : ℕ) (ask : Ask) (unit : Unit) (o : Option Document) (sent : List (List ℕ)) : Type 0 where
     edits : List Replacement
     heard : Heard sent (answers k edits ∷ [])
     replies : IsAnswer unit o ask edits
 
-  -- a refusal has no edits
+  -- A refusal is an answer without edits.
   refused : (id : Data) (k : ℕ) (uri : List ℕ) (ask : Ask) (unit : Unit) (o : Option Document) (code : ℤ) (why : List ℕ) (sent : List (List ℕ)) → Asks id k uri ask → Sends (error_message id code why) sent
       → IsAnswer unit o ask [] → Answered k ask unit o sent
   refused id k uri ask unit o code why sent of sends none =
@@ -405,7 +404,7 @@ module _ (number_of : Data → Option ℕ) (requested : List SentAsk) where
             replies = answer_is;
           }
 
-      -- this editor wants actions that aren't commands
+      -- The client of this editor asks for actions with edits, so it isn't one that asks for commands only.
       wants : (b c : Bool) → b ≡ true → c ≡ true → (b && c) ≡ false → ⊥
       wants true true is also not = let no : true ≡ false = not in cc
       wants true false is also not = cc
@@ -437,7 +436,7 @@ module _ (number_of : Data → Option ℕ) (requested : List SentAsk) where
       subst (λ a. Served (requests k uri ask) before a sent) (sym same)
       (record { phase = running; client = refl; held = refl; said = answers k answer.edits ∷ []; heard = answer.heard; replies = (answer.edits, answer.replies, refl, refl) })
 
-  -- an ask about a document, where its answer is known for the text of one that is in step
+  -- An ask about a document is answered if its answer is known for the text of a document in step.
   about_document : (id : Data) (k : ℕ) (uri : List ℕ) (ask : Ask) (say : ℤ → List ℕ → Reply) (before after : ServerState) (sent : List (List ℕ)) → before.phase ≡ Running → Asks id k uri ask
       → ((version : ℤ) (text : List ℕ) → SaysReply (say version text) sent → Answered k ask before.held.unit (Some (InStep version text)) sent)
       → (o : Option Document) → document_at before.held uri ≡ o → after ≡ (answers_about before id o say).after → SaysReply (answers_about before id o say).say sent → Served (requests k uri ask) before after sent
@@ -448,7 +447,7 @@ module _ (number_of : Data → Option ℕ) (requested : List SentAsk) where
   about_document id k uri ask say before after sent running of in_step (Some (InStep version text)) at same saying =
       asks_served k uri ask before after sent running same (subst (λ o. Answered k ask before.held.unit o sent) (sym at) (in_step version text saying))
 
-  -- a request of the editor, while the session runs
+  -- A running session replies to a request of this editor as the model's server does.
   request_served : (id : Data) (k : ℕ) (uri : List ℕ) (ask : Ask) (params : Data) (before after : ServerState) (sent : List (List ℕ)) → before.phase ≡ Running → TakesEdits before.client ask → Asks id k uri ask → request_by_method (method_of ask) params ≡ Ok (call_for uri ask)
       → after ≡ (answer_method before id (method_of ask) params).after → SaysReply (answer_method before id (method_of ask) params).say sent → Served (requests k uri ask) before after sent
   request_served id k uri (rename position name) params before after sent running takes of call is saying =
@@ -476,7 +475,7 @@ module _ (number_of : Data → Option ℕ) (requested : List SentAsk) where
       (λ version text. formatted id k uri indent before.held.unit version text sent of) (document_at before.held uri) refl
       (is ∙ ap (λ (x : Reaction). x.after) so) (subst (λ (x : Reaction). SaysReply x.say sent) so saying)
 
-  -- a request for the actions in a range, where its place is that of the position
+  -- A request for the actions in a range is answered as an inlining if the range and the position have the same offset.
   inline_served : (how : Inlining) (id : Data) (k : ℕ) (uri : List ℕ) (position : Position) (range : Range) (only : Option (List (List ℕ))) (params : Data) (before after : ServerState) (sent : List (List ℕ)) → before.phase ≡ Running → TakesActions before.client
       → Asks id k uri (inlining_at how position) → allows_inlining only ≡ true → ((unit : Unit) (text : List ℕ) → actions_offset unit text range ≡ place_at unit text position) → request_by_method (codes "textDocument/codeAction") params ≡ Ok (code_action uri range only)
       → after ≡ (answer_method before id (codes "textDocument/codeAction") params).after → SaysReply (answer_method before id (codes "textDocument/codeAction") params).say sent
@@ -490,7 +489,7 @@ module _ (number_of : Data → Option ℕ) (requested : List SentAsk) where
 
   -- ---- contents
 
-  -- a notification about a document, while the session runs
+  -- A running session replies to a notification as the model's server does.
   pub note_answered : (note : DocumentEvent) (before after : ServerState) (content : List ℕ) (sent : List (List ℕ)) → before.phase ≡ Running → heard_as.IsNote note content → Answers before content sent after → Served (notifies note) before after sent
   note_answered note before after content sent running is h =
       let answer = reacts_so before after content sent is.json (going_on before after content sent running h) is.reads in
@@ -498,14 +497,14 @@ module _ (number_of : Data → Option ℕ) (requested : List SentAsk) where
       ap (react before) is.means ∙ ap (λ phase. react_to_notification phase before is.method is.params) running ∙ ap (apply_notification before) is.reported in
       note_served note before after sent running is.fits (answer.0 ∙ ap (λ (x : Reaction). x.after) so) (subst (λ (x : Reaction). SaysReply x.say sent) so answer.1)
 
-  -- an ask
+  -- A running session replies to an ask as the model's server does.
   pub ask_answered : (id : Data) (k : ℕ) (uri : List ℕ) (ask : Ask) (before after : ServerState) (content : List ℕ) (sent : List (List ℕ)) → before.phase ≡ Running → TakesEdits before.client ask → number_of id ≡ Some k → IsAsk requested k uri ask
       → heard_as.IsRequestWithId id uri ask content → Answers before content sent after → Served (requests k uri ask) before after sent
   ask_answered id k uri ask before after content sent running takes numbered of is h =
       let reaction = request_reaction id uri ask before after content sent running is h in
       request_served id k uri ask is.params before after sent running takes (record { numbered = numbered; is = of }) is.calls reaction.0 reaction.1
 
-  -- a request for the actions in a range
+  -- A running session replies to a request for the actions in a range as the model's server does to an inlining.
   pub actions_answered : (how : Inlining) (id : Data) (k : ℕ) (uri : List ℕ) (position : Position) (before after : ServerState) (content : List ℕ) (sent : List (List ℕ)) → before.phase ≡ Running → TakesActions before.client → number_of id ≡ Some k
       → IsAsk requested k uri (inlining_at how position) → IsActionsRequest id uri position content → Answers before content sent after → Served (requests k uri (inlining_at how position)) before after sent
   actions_answered how id k uri position before after content sent running takes numbered of is h =
@@ -517,20 +516,21 @@ module _ (number_of : Data → Option ℕ) (requested : List SentAsk) where
 
 -- ---- the model's editor
 
--- a client that takes actions with edits takes the edits of each ask
+-- A session that runs with this editor has a client that accepts the edits of each ask.
 takes_all : (s : ServerState) (ask : Ask) → IsRunning s → TakesEdits s.client ask
 takes_all s (rename position name) running = running.1
 takes_all s (inline_here position) running = (running.1, running.2)
 takes_all s (inline_all position) running = (running.1, running.2)
 takes_all s (format indent) running = tt
 
--- the ids of the model's editor are its numbers
+-- The session replies to a message of the model's editor as the model's server does. The ids of that editor's requests
+-- are their numbers.
 pub served : (requested : List SentAsk) (m : ToServer) (before after : ServerState) (content : List ℕ) (sent : List (List ℕ)) → IsRunning before → heard_as.SaysToServer requested m content → Answers before content sent after → Served request_number requested m before after sent
 served requested (notifies note) before after content sent running is h = note_answered request_number requested note before after content sent running.0 is h
 served requested (requests k uri ask) before after content sent running (is, of) h =
     ask_answered request_number requested (number (unsigned k)) k uri ask before after content sent running.0 (takes_all before ask running) refl of is h
 
--- the session runs with the same client
+-- After a message the session still runs with the same client.
 pub runs_on : (requested : List SentAsk) (m : ToServer) (before after : ServerState) (sent : List (List ℕ)) → IsRunning before → Served request_number requested m before after sent → IsRunning after
 runs_on requested m before after sent running s =
     (s.phase, ap (λ (c : Client). c.takes_document_changes) s.client ∙ running.1, ap (λ (c : Client). c.takes_literal_actions) s.client ∙ running.2)

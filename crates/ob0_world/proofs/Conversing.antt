@@ -1,4 +1,4 @@
--- Two conversations, one after the other, are one.
+-- Proves that two conversations, one after the other, are one conversation.
 use Rattle.std.proofs.Common.{ℕ, List, [], ◌∷◌, ◌++◌, refl, sym, subst}
 use Rattle.std.proofs.lemmas.List.{append_assoc, append-nil}
 use Rattle.ob0_session_server.specs.Answers.{ServerState, Answers, Conversation}
@@ -21,6 +21,6 @@ conversation_then before (c ∷ contents) sent between more said after first nex
   all = rw first.all (append_assoc first.first first.later said);
 }
 
--- one content is answered
+-- One content and its answer are a conversation.
 pub answered_once : (before : ServerState) (content : List ℕ) (sent : Texts) (after : ServerState) → Answers before content sent after → Conversation before (content ∷ []) sent after
 answered_once before content sent after answers = record { between = after; first = sent; later = []; answers = answers; follows = (refl, refl); all = sym (append-nil sent) }

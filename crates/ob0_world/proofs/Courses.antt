@@ -1,7 +1,8 @@
--- How a course goes on, and what follows of it for what has come of it and for the session.
--- That the contents returned are a `Conversation` is a lemma over the course (`course_conversed`), by cases of the
--- event; `serve` has the same relation (`Served`). A step whose allocation fails leaves what has come and passed
--- (`SameHistory`), so all of it holds of the events before.
+-- Extends a course by one event, and derives the results of a list of events and the session's conversation from a
+-- course.
+-- The returned contents are a `Conversation` by a lemma over the course (`course_conversed`), by cases of the event.
+-- `serve` has the same relation (`Served`). A step whose allocation fails keeps the results and the passed contents
+-- (`SameHistory`), so the claims hold of the events before it.
 use Rattle.std.proofs.Common.{◌≡◌, ◌∙◌, ℕ, ◌+◌, ◌<◌, List, [], ◌∷◌, ◌++◌, length, take, get_or, map, refl, sym, ap, subst, inl, inr}
 use Rattle.std.specs.Prelude.{All}
 use Rattle.std.proofs.lemmas.List.{map-append, take_more, append-nil, append_assoc}
@@ -42,7 +43,7 @@ model_course begin (e ∷ events) end (between, step, rest) = (between.model, st
 
 -- ---- the session's conversation
 
--- what passed is a conversation of a session from its beginning on
+-- Everything that has passed is a conversation of a session from its beginning.
 pub Conversed : Wire → Type 0
 Conversed w = Conversation server.start w.taken (w.got ++ w.to_editor) w.session
 
@@ -63,7 +64,7 @@ writes_conversed : (old new : Wire) → WritesContent old new → Conversed old 
 unfolding Conversed
 writes_conversed old new (content, is) h = subst Conversed (sym is) h
 
--- whatever the editor writes
+-- Contents that the editor writes don't change the conversation, since they still wait.
 pub written_conversed : (wire : Wire) (contents : List (List ℕ)) → Conversed wire → Conversed (record wire { to_server = wire.to_server ++ contents })
 unfolding Conversed
 written_conversed wire contents h = h
@@ -91,7 +92,7 @@ course_conversed : (begin : Connection) (events : List Event) (end : Connection)
 course_conversed begin [] end is h = subst (λ (w : Connection). Conversed w.wire) (sym is) h
 course_conversed begin (e ∷ events) end (between, step, rest) h = course_conversed between events end rest (moved_conversed e begin.wire between.wire step.moves h)
 
--- ---- what has come of it
+-- ---- the results of a course
 
 headline : (unit : Unit) (events : List event.Event) (w : ClientAndServer) (p : played.Played) → Course (start unit) (map event_of events) w → HasCome w p → Headline unit (map event_of events) (all_applied p) (all_made p)
 headline unit events w p course come =
@@ -128,7 +129,7 @@ plays unit events begin end p begun course come passed =
       conversation = talked.1;
     }
 
--- memory ran out before the first event
+-- If memory runs out before the first event, the code returns no results.
 pub plays_nothing : (unit : Unit) (events : List event.Event) (fault : PlayFault) → fault.steps ≡ 0 → all_applied fault.played ≡ [] → all_made fault.played ≡ [] → fault.played.taken.items ≡ [] → fault.played.got.items ≡ [] → fault.played.unread.items ≡ []
     → PlaysBefore unit events fault
 plays_nothing unit events fault none applied made taken got unread = inr (record { none = none; headline = headline unit [] (start unit) fault.played refl (applied, made); taken = taken; got = got; unread = unread })
@@ -139,7 +140,7 @@ come_before old new p same come = (come.0 ∙ same.applied, come.1 ∙ same.made
 pub passed_before : (old new : Connection) (p : played.Played) → SameHistory old new → HasPassed new.wire p → HasPassed old.wire p
 passed_before old new p same passed = (passed.0 ∙ same.taken, passed.1 ∙ same.got, passed.2 ∙ same.unread)
 
--- memory ran out at the event with this index
+-- If memory runs out at the event with this index, the code returns the results of the events before it.
 pub plays_before : (unit : Unit) (events : List event.Event) (i : ℕ) (begin w : Connection) (fault : PlayFault) → fault.steps ≡ i → i < length events → Begins unit begin → ConnectionCourse begin (map event_of (take i events)) w → HasCome w.model fault.played → HasPassed w.wire fault.played
     → PlaysBefore unit events fault
 plays_before unit events i begin w fault counted within begun course come passed =

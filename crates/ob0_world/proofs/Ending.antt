@@ -1,4 +1,4 @@
--- Proves that a session that takes `shutdown` and then `exit` answers the first, and has ended with status 0.
+-- Proves that a session that takes `shutdown` and then `exit` answers `shutdown`, and has ended with status 0.
 use Rattle.std.proofs.Common.{◌≡◌, ◌∙◌, ℕ, List, [], ◌∷◌, ◌++◌, append-nil, sym, ap, subst}
 use Rattle.std.specs.Prelude.{codes}
 use Rattle.serde_json.specs.Data.{Data, null}
@@ -9,7 +9,7 @@ use Rattle.ob0_session_server.specs.Answers.{ServerState, SaysReply, Sends, Reac
 use Rattle.ob0_world.specs.Exchanges.{IsShutdown, IsExit, EndsSession}
 use Rattle.ob0_world.proofs.Answering.{going_on, reacts_so}
 
--- it is shut down
+-- states that the session has answered `shutdown`, is shut down and has the same documents
 record IsShut (id : Data) (before : ServerState) (sent : List (List ℕ)) (after : ServerState) : Type 0 where
   answer : Sends (result_message id null) sent
   phase : after.phase ≡ ShutDown

@@ -75,12 +75,12 @@ has_id (b ∷ list) n (suc i) a h = go (n == n + suc i) refl (has_id list (suc n
     go true is later = let same : n ≡ n + suc i = eqb-true n (n + suc i) is in absurd (omega (arith, same))
     go false is later = subst (λ m. sent_with (ids_from (suc n) list) (number_id m) ≡ Some (Some m)) on later
 
--- an ask has its number as its id
+-- The number of an ask is its id.
 numbered_so : (requested : List SentAsk) (k : ℕ) (a : SentAsk) → request_numbered requested k ≡ Some a → ask_with (ids_from 1 requested) (number (unsigned k)) ≡ Some k
 numbered_so requested zero a h = absurd (none-some a h)
 numbered_so requested (suc k) a h = ap (option_and_then (λ ask. ask)) (subst (λ m. sent_with (ids_from 1 requested) (number_id m) ≡ Some (Some m)) (omega arith) (has_id requested 1 k a h))
 
--- and so a number that is the id of an ask is read
+-- A JSON number that is the number of an ask is read as that ask's id.
 named_so : (requested : List SentAsk) (d : Data) (k : ℕ) (a : SentAsk) → request_numbered requested k ≡ Some a → request_number d ≡ Some k → ask_with (ids_from 1 requested) d ≡ Some k
 named_so requested (number (unsigned n)) k a h is =
     let same : n ≡ k = same_Some n k is in
@@ -93,7 +93,7 @@ named_so requested (string text) k a h is = absurd (none-some k is)
 named_so requested (array ds) k a h is = absurd (none-some k is)
 named_so requested (object ms) k a h is = absurd (none-some k is)
 
--- it may come to this editor, this wire and these applied edits
+-- states that some turns may lead from x to this editor, this wire and these applied edits
 record ComesTo (x : Exchange) (editor : Editor) (wire : Wire) (applied : List Applied) : Type 0 where
   turns : List Turn
   announced : List Announced
@@ -108,14 +108,14 @@ none_said : (requested : List SentAsk) (contents : List (List ℕ)) → AllSay r
 none_said requested [] h = refl
 none_said requested (c ∷ contents) h = absurd h
 
--- the contents that were written last say what was sent last
+-- If all contents say all messages, the last contents say the last messages.
 last_say : (requested now : List SentAsk) (messages more : List ToServer) (contents others : List (List ℕ)) → AllSay requested messages contents → AllSay now (messages ++ more) (contents ++ others) → AllSay now more others
 last_say requested now [] more [] others h k = k
 last_say requested now (m ∷ messages) more (c ∷ contents) others h k = last_say requested now messages more contents others h.1 k.1
 last_say requested now [] more (c ∷ contents) others h k = absurd h
 last_say requested now (m ∷ messages) more [] others h k = absurd h
 
--- an inlining is asked for at an empty range, of all kinds
+-- An ask to inline sends a request for the actions at an empty range, of all kinds.
 inline_said : (id : Data) (uri : List ℕ) (position : Position) (ask : Ask) (content : List ℕ) → method_of ask ≡ codes "textDocument/codeAction" → call_for uri ask ≡ asked.code_action uri (empty_at position) None → IsRequestWithId id uri ask content
     → IsActionsRequest id uri position content
 inline_said id uri position ask content method call is =
@@ -156,7 +156,7 @@ module _ (client : Client) (takes : TakesActions client) where
   each_says requested [] (c ∷ contents) h = absurd h
   each_says requested (m ∷ messages) [] h = absurd h
 
--- the asks that are sent have their numbers as ids
+-- The asks that an act sends have their numbers as ids.
 sent_names : (e : Editor) (act : Act) → NamesAsks (ids_from 1 e.requested) (done_by e act).sent (ids_from 1 (done_by e act).editor.requested)
 sent_names e act =
     of_each e (λ done. NamesAsks (ids_from 1 e.requested) done.sent (ids_from 1 done.editor.requested))
@@ -177,7 +177,7 @@ sent_names e act =
 
 -- ---- what is needed of a connection
 
--- its contents are its messages, its session runs, and its editor knows its asks
+-- states that a connection's contents are its messages, its session runs, and its editor knows its asks
 record Goes (c : Connection) : Type 0 where
   says : AllSay c.model.editor.requested c.model.to_server c.wire.to_server
   means : map (understood c.model.editor.requested) c.wire.to_editor ≡ map Some c.model.to_editor
@@ -264,7 +264,7 @@ reads_asks e (publishes uri version empty) = refl
 reads_asks e (answers k []) = refl
 reads_asks e (answers k (edit ∷ edits)) = refl
 
--- an answer of the model is read with the numbers as ids
+-- An answer is read the same if the ids of asks are their numbers.
 read_so_too : (requested : List SentAsk) (content : List ℕ) (m : ToEditor) → understood requested content ≡ Some m → read_by (ids_from 1 requested) requested content ≡ Some m
 read_so_too requested content m h = subst (λ asks. read_so (ask_with (ids_from 1 requested)) asks content ≡ Some m) (append-nil requested) (read_still request_number (ask_with (ids_from 1 requested)) requested [] (named_so requested) content m h)
 

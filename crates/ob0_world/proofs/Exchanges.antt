@@ -168,18 +168,18 @@ names_more ids (requests k uri ask ∷ sent) new (id, fresh, names) =
     let more : (later : List SentId) × (new ≡ (ids ++ s ∷ []) ++ later) = names_more (ids ++ s ∷ []) sent new names in
     (s ∷ more.0, more.1 ∙ append_assoc ids (s ∷ []) more.0)
 
--- the id of another request
+-- The ids after another request are the old ids and perhaps one more.
 others_more : (ids : List SentId) (id : Option Id) → (later : List SentId) × (with_other ids id ≡ ids ++ later)
 others_more ids None = ([], sym (append-nil ids))
 others_more ids (Some id) = (record { id = id; ask = None } ∷ [], refl)
 
 -- ---- what is replied to other messages
 
--- the message answers the request with this id
+-- holds if the message answers the request with this id
 abbrev IsReply : Data → Data → Type 0
 IsReply id message = (is_some (get (codes "method") message) ≡ false) × (get (codes "id") message ≡ Some id)
 
--- a reply to another request is no answer to an ask
+-- A reply to a request that isn't an ask is no answer to an ask.
 no_answer_to : (ids : List SentId) (id message : Data) → IsReply id message → IsOtherId ids (id_read id) → (later : List SentId) (requested : List SentAsk) → value_read (ask_with (ids ++ later)) requested message ≡ None
 no_answer_to ids id message (no_method, has_id) own later requested =
     ap (λ b. cond b (notice_understood message) (answer_read (ask_with (ids ++ later)) requested message)) no_method
@@ -200,7 +200,7 @@ module _ (ids : List SentId) (requested : List SentAsk) (before after : ServerSt
   no_reply : after ≡ before → sent ≡ [] → OtherServed ids requested before after sent
   no_reply same none = record { same = same; said = []; none = refl; means = subst (EachMeans ids requested []) (sym none) tt }
 
-  -- it sends a reply to this request
+  -- holds if the session sends one reply to the request with this id
   abbrev Replied : Data → Type 0
   Replied id = (message : Data) × Sends message sent × IsReply id message
 
@@ -217,7 +217,7 @@ module _ (ids : List SentId) (requested : List SentAsk) (before after : ServerSt
   refused_other : (id : Data) (code : ℤ) (why : List ℕ) → IsOtherId ids (id_read id) → after ≡ before → Sends (error_message id code why) sent → OtherServed ids requested before after sent
   refused_other id code why own same sends = one_reply id own same (error_message id code why, sends, (refl, refl))
 
-  -- a request about a document
+  -- A request about a document changes nothing and gets one reply or a refusal.
   about_served : (id : Data) (say : ℤ → List ℕ → Reply) → IsOtherId ids (id_read id) → ((version : ℤ) (text : List ℕ) → SaysReply (say version text) sent → Replied id) → (o : Option Document)
       → after ≡ (answers_about before id o say).after → SaysReply (answers_about before id o say).say sent → OtherServed ids requested before after sent
   about_served id say own in_step None same saying = refused_other id (minus 32803) (codes "unopened") own same saying
@@ -240,7 +240,7 @@ module _ (ids : List SentId) (requested : List SentAsk) (before after : ServerSt
   layout_replied unit id indent text (message, inr (inl (long, is)), sends) = (error_message id (minus 32803) (refusal_text TooLong), subst (λ m. Sends m sent) is sends, (refl, refl))
   layout_replied unit id indent text (message, inr (inr (unfit, is)), sends) = (error_message id (minus 32803) (codes "ill-typed"), subst (λ m. Sends m sent) is sends, (refl, refl))
 
-  -- a question about the name at a position
+  -- A question about the name at a position changes nothing and gets one reply or a refusal.
   name_served : (id : Data) (at : At) (question : NameQuestion) → IsOtherId ids (id_read id) → after ≡ (requests_name before id at question).after → SaysReply (requests_name before id at question).say sent → OtherServed ids requested before after sent
   name_served id at question own same saying =
       about_served id (λ version. answers_name before.held.unit id at question) own (λ version text. named_replied before.held.unit id at question text) (document_at before.held at.uri) same saying
@@ -284,7 +284,7 @@ module _ (ids : List SentId) (requested : List SentAsk) (before after : ServerSt
 
 -- ---- diagnostics
 
--- what is published is understood whatever was asked
+-- An answer has no list of diagnostics in it, whatever was requested.
 answer_published : (number_of : Data → Option ℕ) (requested : List SentAsk) (d : Data) → with_version (answer_read number_of requested d) ≡ []
 answer_published number_of requested d = go (option_and_then number_of (get (codes "id") d))
   where
@@ -331,7 +331,7 @@ others_published [] none = refl
 others_published (None ∷ said) none = others_published said none
 others_published (Some m ∷ said) none = absurd (cc)
 
--- a publication of the model, as it is sent
+-- returns the sent parts of a publication of the model: its uri, its version and whether it is empty
 abbrev named : Made → Published
 named m = record { uri = m.uri; version = m.version; empty = m.empty }
 
@@ -351,7 +351,7 @@ replies_named held (notifies (Closed uri)) said made h = ap (λ ms. versions (ma
     go false = refl
 replies_named held (requests k uri ask) said made (edits, may, is_said, is_made) = ap (λ ms. versions (map Some ms)) is_said ∙ sym (ap (map named) is_made)
 
--- what was sent since then publishes what was made
+-- states that the contents sent since `got` publish exactly the publications that were made
 record Shown (got : List (List ℕ)) (wire : Wire) (made : List Made) : Type 0 where
   since : List (List ℕ)
   sent : wire.got ++ wire.to_editor ≡ got ++ since
@@ -389,7 +389,7 @@ session_served ids requested (requests k uri (format indent)) before after conte
 
 -- ---- turn by turn
 
--- the model of what has passed, with these messages
+-- returns the model's state of an exchange, with these messages in its queues
 abbrev model_of : Exchange → List (Option ToServer) → List (Option ToEditor) → List Made → EditorAndServer
 model_of x q r made =
     record {
@@ -531,7 +531,7 @@ module _ (got : List (List ℕ)) (x : Exchange) (made : List Made) where
   reads_asks e (answers k []) = refl
   reads_asks e (answers k (edit ∷ edits)) = refl
 
-  -- once the editor is this one
+  -- The contents still say the messages after the editor has got a content and become e.
   got_so : (q : List (Option ToServer)) (r rest_meant : List (Option ToEditor)) (content : List ℕ) (rest : List (List ℕ)) (e : Editor) → x.wire.to_editor ≡ content ∷ rest → Tied got x q r made → e.requested ≡ x.editor.requested → EachMeans x.ids x.editor.requested rest_meant rest
       → Tied got (record x { editor = e; wire = record x.wire { got = x.wire.got ++ content ∷ []; to_editor = rest } }) q rest_meant made
   got_so q r rest_meant content rest e waits tied same means =
@@ -615,7 +615,7 @@ every_exchange_is_of_the_model unit begin now turns b leads =
 
 -- ---- the headline of an exchange
 
--- publications that are right, and made for these documents
+-- Publications that are right and made for these documents are right of them when sent.
 right_of : (made : List Made) (announced : List Announced) → All IsRight made → AreMadeOf made announced → AreRightOf (map named made) announced
 right_of [] [] all h = tt
 right_of (m ∷ made) (t ∷ announced) all ((uri_is, version_is, text_is), rest) = (
@@ -627,14 +627,14 @@ right_of (m ∷ made) (t ∷ announced) all ((uri_is, version_is, text_is), rest
 right_of [] (t ∷ announced) all h = absurd h
 right_of (m ∷ made) [] all h = absurd h
 
--- the last publication for a uri, as it was sent
+-- The sent parts of the last publication for a uri are the last sent parts for that uri.
 last_named : (uri : List ℕ) (last : Option Made) (made : List Made)
     → fold (λ last p. cond (bytes_eq p.uri uri) (Some p) last) (option_map named last) (map named made) ≡ option_map named (fold (λ last m. cond (bytes_eq m.uri uri) (Some m) last) last made)
 last_named uri last [] = refl
 last_named uri last (m ∷ made) =
     ap (λ o. fold (λ last p. cond (bytes_eq p.uri uri) (Some p) last) o (map named made)) (sym (mapped_choice named (bytes_eq m.uri uri) (Some m) last)) ∙ last_named uri (cond (bytes_eq m.uri uri) (Some m) last) made
 
--- what holds of all of them holds of the last
+-- If all publications are right, the last one for a uri is right.
 last_right : (uri : List ℕ) (last : Option Made) (made : List Made) → MatchOption last ⊤ IsRight → All IsRight made → MatchOption (fold (λ last m. cond (bytes_eq m.uri uri) (Some m) last) last made) ⊤ IsRight
 last_right uri last [] h all = h
 last_right uri last (m ∷ made) h all = last_right uri (cond (bytes_eq m.uri uri) (Some m) last) made (go (bytes_eq m.uri uri)) (All-tail IsRight m made all)
@@ -648,9 +648,9 @@ latest_right : (d : Open) (o : Option Made) → MatchOption o ⊥ (λ m. (m.vers
 latest_right d None h right = h
 latest_right d (Some m) h right = (h.0, subst (λ text. IsEmptyIfCorrect text m.empty) h.1 right)
 
--- ---- what waits, as it is read
+-- ---- the meaning of waiting contents
 
--- a request is of no known ask
+-- Without known asks no request is read.
 none_read : (o : Option ℕ) → option_and_then (request_read []) o ≡ None
 none_read None = refl
 none_read (Some zero) = refl
@@ -678,7 +678,7 @@ other_unheard ids content (json, reads_so, is) = said (λ d. message_read [] (me
     go (request id method params) is = none_read (request_number id)
     go (notice method params) is = ap notification_read is
 
--- what the contents that wait say about documents is what the model's messages say
+-- The notifications in the waiting contents are the notifications among the model's messages.
 notes_waiting : (client : Client) (ids : List SentId) (requested : List SentAsk) (q : List (Option ToServer)) (contents : List (List ℕ)) → EachSays client ids requested q contents → notes_in contents ≡ notes_among (without_others q)
 notes_waiting client ids requested [] [] h = refl
 notes_waiting client ids requested (Some (notifies note) ∷ q) (c ∷ contents) h = λ i. cons_option (says_heard [] (notifies note) c h.0 i) (notes_waiting client ids requested q contents h.1 i)
@@ -688,7 +688,7 @@ notes_waiting client ids requested [] (c ∷ contents) h = absurd h
 notes_waiting client ids requested (Some m ∷ q) [] h = absurd h
 notes_waiting client ids requested (None ∷ q) [] h = absurd h
 
--- requests announce no document, and change none
+-- Only notifications announce documents.
 notes_named : (q : List ToServer) → named_in q ≡ named_in (notes_among q)
 notes_named [] = refl
 notes_named (notifies note ∷ q) = ap (λ names. versions_announced (notifies note) ++ names) (notes_named q)

@@ -1,4 +1,4 @@
--- What the editor's moves make of client and server.
+-- Proves that the editor's acts, as the code makes them, are the acts of the model.
 use Rattle.std.proofs.Common.{◌≡◌, ◌<◌, ◌∙◌, ℕ, Bool, true, false, cond, List, [], ◌∷◌, ◌++◌, length, slice_index_or, Option, Some, None, Result, Ok, Err, refl, sym, ap, subst, arith}
 use Rattle.std.specs.Prelude.{All, Vec, map, IfOk, OnErr, OnOk, is_some, unwrap_or, option_and_then}
 use Rattle.std.specs.Option.{option_to_list}
@@ -47,7 +47,7 @@ act_grows e = of_each e (λ done. Grows e done.editor) (record {
 pub grown : (e new : Editor) (done : Done) → Grows e done.editor → new ≡ done.editor → Grows e new
 grown e new done (more, grows) is = (more, ap (λ (x : Editor). x.requested) is ∙ grows)
 
--- ---- what waits stays sound
+-- ---- waiting contents are still messages
 
 pub grown_sound : (e new : Editor) (q r : Contents) (s : ServerState) → Grows e new → Sound e.requested q r s → Sound new.requested q r s
 grown_sound e new q r s (more, is) sound =
@@ -61,7 +61,7 @@ pushed_sound : (requested : List SentAsk) (q r : Contents) (s : ServerState) (c 
 pushed_sound requested q r s c m says sound =
     record { heard_all = All-push (IsHeard requested) q c sound.heard_all (m, says); understood_all = sound.understood_all; running = sound.running }
 
--- the editor has acted, and its message, if any, waits
+-- After an act the waiting contents are still messages, including the content of that act.
 pub acted_sound : (e new : Editor) (done : Done) (content : Option (Vec ℕ Global)) (q q' r : Contents) (s : ServerState) → Grows e done.editor → Acts done content new → q' ≡ q ++ option_to_list content → Sound e.requested q r s → Sound new.requested q' r s
 acted_sound e new done content q q' r s grows acts is sound =
     let still : Sound new.requested q r s = grown_sound e new q r s (grown e new done grows acts.0) sound in
@@ -73,7 +73,7 @@ acted_sound e new done content q q' r s grows acts is sound =
     go (m ∷ more) None says still = absurd says
     go (m ∷ more) (Some c) says still = pushed_sound new.requested q r s c m says.0 still
 
--- what waits for the session, once an act is done
+-- The queue to the session has the messages that it had and the one that the act sent.
 heard_acted : (requested : List SentAsk) (sent : List ToServer) (content : Option (Vec ℕ Global)) (q : Contents) → SaysSent requested sent content → all_heard requested (q ++ option_to_list content) ≡ all_heard requested q ++ sent
 heard_acted requested [] None q says = ap (all_heard requested) (append-nil q) ∙ sym (append-nil (all_heard requested q))
 heard_acted requested [] (Some c) q says = absurd says
@@ -81,7 +81,7 @@ heard_acted requested (m ∷ more) None q says = absurd says
 heard_acted requested (m ∷ more) (Some c) q says =
     said_push (heard requested) q c m (says_heard requested m c.items says.0) ∙ ap (λ ms. all_heard requested q ++ m ∷ ms) (sym says.1)
 
--- client and server once an act is done
+-- After an act of the code, the stored state is the model's state after that act.
 pub acted : (e new : Editor) (done : Done) (content : Option (Vec ℕ Global)) (q q' r : Contents) (s : ServerState) (ap_list ap_new : List applied.Applied) (md : List made.Made) → Grows e done.editor → Acts done content new → q' ≡ q ++ option_to_list content
     → map applied_of ap_new ≡ map applied_of ap_list ++ done.applied → Sound e.requested q r s → model_from new q' s r ap_new md ≡ after_act (model_from e q s r ap_list md) done
 acted e new done content q q' r s ap_list ap_new md grows acts is more sound =
@@ -98,7 +98,7 @@ acted e new done content q q' r s ap_list ap_new md grows acts is more sound =
 
 -- ---- an act that applies nothing
 
--- a content, if there is one, was put after the others
+-- The content of an act, if there is one, was put at the end of the queue.
 pub put : (q q' : Contents) (content : Option (Vec ℕ Global)) (shown : seen.Seen) → IsSent q content shown q' → q' ≡ q ++ option_to_list content
 put q q' None shown sent = sent.1 ∙ sym (append-nil q)
 put q q' (Some c) shown sent = sent.1
@@ -166,7 +166,7 @@ sent_shows act old e new content q q' r s ap_list md (Err x) was none as_sent ac
 
 -- ---- answers
 
--- nothing came of an answer
+-- An answer that isn't applied sends nothing.
 pub silent_acts : (done : Done) (new : Editor) → IsSilent done new → Acts done None new
 silent_acts done new (is, nothing_sent, none) = (is, subst (λ ms. SaysSent new.requested ms None) (sym nothing_sent) tt)
 
@@ -175,7 +175,7 @@ pub silent_shows : (act : Act) (e new : Editor) (q r : Contents) (s : ServerStat
 silent_shows act e new q r s ap_list md silent sound =
     acted e new (done_by e act) None q q r s ap_list ap_list md (act_grows e act) (silent_acts (done_by e act) new silent) (sym (append-nil q)) (sym (append-nil (map applied_of ap_list)) ∙ ap (λ x. map applied_of ap_list ++ x) (sym silent.2)) sound
 
--- what is seen of an answer that is to be applied
+-- returns the report on an answer that was to be applied
 abbrev pub apply_seen : (e new : Editor) (k : ℕ) (outcome : applying.Applying) → ComesOf (done_by e (apply k)) (is_some (kept_answer k e.answers)) outcome new → Seen
 apply_seen e new k applying.TheVariants.NotHeld comes = nothing
 apply_seen e new k applying.TheVariants.Dropped comes = drops k
@@ -193,11 +193,11 @@ apply_requested e new k applying.TheVariants.NotHeld comes = comes.0.0
 apply_requested e new k applying.TheVariants.Dropped comes = comes.0.0
 apply_requested e new k (applying.TheVariants.Made a c) comes = comes.0.0
 
--- what waits stays sound once an answer was applied or dropped
+-- After an answer was applied or dropped, the waiting contents are still messages.
 pub applied_sound : (e new : Editor) (k : ℕ) (outcome : applying.Applying) (q r : Contents) (s : ServerState) → ComesOf (done_by e (apply k)) (is_some (kept_answer k e.answers)) outcome new → Sound e.requested q r s → Sound new.requested q r s
 applied_sound e new k outcome q r s comes sound = grown_sound e new q r s (grown e new (done_by e (apply k)) (act_grows e (apply k)) (apply_requested e new k outcome comes)) sound
 
--- the content of what was made says something
+-- The content that tells of an applied edit is a message to the server.
 pub made_says : (e new : Editor) (k : ℕ) (a : applied.Applied) (c : Vec ℕ Global) → ComesOf (done_by e (apply k)) (is_some (kept_answer k e.answers)) (applying.TheVariants.Made a c) new → IsHeard new.requested c
 made_says e new k a c comes = go (done_by e (apply k)).sent comes.0.1
   where
@@ -231,7 +231,7 @@ pub read_asks : (e : Editor) (m : ToEditor) → (reads e m).requested ≡ e.requ
 read_asks e (publishes uri version empty) = refl
 read_asks e (answers number edits) = keep_asks e number edits
 
--- the editor has read the first content that waits for it
+-- When the editor has read the first waiting content, the model's editor has taken the message that it says.
 pub taken_happens : (e new : Editor) (q r rest : Contents) (s : ServerState) (ap_list : List applied.Applied) (md : List made.Made) (c : Vec ℕ Global) (m : ToEditor) → r ≡ c ∷ rest → understood e.requested c.items ≡ Some m → new ≡ reads e m
     → Shows (model_from e q s r ap_list md) take_message (taken_seen (m ∷ [])) (model_from new q s rest ap_list md)
 taken_happens e new q r rest s ap_list md c m first means is =
@@ -246,7 +246,7 @@ taken_happens e new q r rest s ap_list md c m first means is =
     of_message (publishes uri version empty) = refl
     of_message (answers k edits) = refl
 
--- ---- what waits
+-- ---- waiting contents
 
 module _ (s : ServerState) (tk q gt r : Contents) where
   pub writes_none : WritesContent (wire_from s tk q gt r) (wire_from s tk q gt r)
@@ -264,23 +264,23 @@ pub taken_sound : (requested : List SentAsk) (q r rest : Contents) (s : ServerSt
 taken_sound requested q r rest s c is sound =
     record { heard_all = sound.heard_all; understood_all = All-tail (IsUnderstood requested) c rest (subst (All (IsUnderstood requested)) is sound.understood_all); running = sound.running }
 
--- the contents that wait, where this is the first of them
+-- A queue that isn't empty is its first content and the rest.
 pub first_of : (r : Contents) (c : Vec ℕ Global) → 0 < length r → c ≡ slice_index_or r 0 c → (rest : Contents) × (r ≡ c ∷ rest)
 first_of [] c some is = absurd (omega (arith, some))
 first_of (x ∷ rest) c some is = (rest, λ i. sym is i ∷ rest)
 
--- where the first of them is moved
+-- If the first content of a queue is moved, the rest is left and the content is the last that was got.
 pub moved_first : (r r' gt gt' : Contents) (c : Vec ℕ Global) (rest : Contents) → r ≡ c ∷ rest → MovesFirst r gt r' gt' → (r' ≡ rest) × (gt' ≡ gt ++ c ∷ [])
 moved_first r r' gt gt' c rest is moves = subst (λ x. MovesFirst x gt r' gt') is moves
 
--- a content that waits for the editor says something to it
+-- A content that waits for the editor is a message to it.
 pub taken_says : (requested : List SentAsk) (q r rest : Contents) (s : ServerState) (c : Vec ℕ Global) → r ≡ c ∷ rest → Sound requested q r s → understood requested c.items ≡ None → ⊥
 taken_says requested q r rest s c is sound silent =
     let says : IsUnderstood requested c = All-head (IsUnderstood requested) c rest (subst (All (IsUnderstood requested)) is sound.understood_all) in
     let clash : Some says.0 ≡ None = sym says.1 ∙ silent in
     cc
 
--- a content may have been put after the others
+-- The waiting contents are still messages after a message was put at the end, or not.
 pub maybe_pushed : (requested : List SentAsk) (q q' r : Contents) (s : ServerState) (c : Vec ℕ Global) (b : Bool) → q' ≡ cond b (q ++ c ∷ []) q → IsHeard requested c → Sound requested q r s → Sound requested q' r s
 maybe_pushed requested q q' r s c true is says sound = subst (λ x. Sound requested x r s) (sym is) (pushed_sound requested q r s c says.0 says.1 sound)
 maybe_pushed requested q q' r s c false is says sound = subst (λ x. Sound requested x r s) (sym is) sound

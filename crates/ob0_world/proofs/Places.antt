@@ -1,4 +1,4 @@
--- The place of a position that isn't after another isn't after its place.
+-- Proves that positions in order have offsets in order: if p isn't after q, neither is its offset.
 use Rattle.std.proofs.Common.{◌≡◌, ◌∙◌, ℕ, zero, suc, ◌+◌, ◌-◌, ◌<◌, ◌≤◌, Bool, true, false, List, [], ◌∷◌, ◌++◌, length, take, refl, sym, ap, arith, inl, inr, cond, append_assoc}
 use Rattle.std.specs.Prelude.{◌⊎◌, min, nat_le, encode_utf8_all}
 use Rattle.std.proofs.lemmas.Str.{encodes-append}
@@ -23,7 +23,7 @@ len-cons c xs ys h =
     omega (arith, one, other, h)
 
 module _ (width : ℕ → ℕ) where
-  -- more fits where there is more room
+  -- More units fit at least as many bytes.
   more_fits : (cs : List ℕ) (n m : ℕ) → n ≤ m → byte_len (fitting width n cs) ≤ byte_len (fitting width m cs)
   unfolding fitting
   more_fits [] n m h = omega arith
@@ -98,7 +98,7 @@ module _ (width : ℕ → ℕ) where
       let more : byte_len (up_to (lines text) p.line p.character) ≤ byte_len (up_to (lines text) q.line q.character) = further (lines text) p.line q.line p.character q.character h in
       omega (arith, one, other, more)
 
--- so the place of the actions in a range is that of its start
+-- The offset for the code actions of a range is the offset of its start.
 pub place_of_range : (range : Range) (position : Position) → range.start ≡ position → IsNotAfter range.start range.end → (unit : Unit) (text : List ℕ) → actions_offset unit text range ≡ place_at unit text position
 place_of_range range position from ordered unit text =
     let more : place_at unit text range.start ≤ place_at unit text range.end = place_further (width_of unit) text range.start range.end ordered in

@@ -1,4 +1,4 @@
--- What the server's turn makes of client and server.
+-- Proves that the server's event, as the code makes it, is the server's event of the model.
 use Rattle.std.proofs.Common.{◌≡◌, ◌∙◌, ℕ, ◌+◌, ◌-◌, arith, Bool, List, [], ◌∷◌, ◌++◌, length, Option, Some, None, inl, inr, refl, sym, ap, subst, cond}
 use Rattle.std.specs.Prelude.{All, Vec, map, option_map, option_and_then}
 use Rattle.std.specs.Option.{option_to_list}
@@ -22,26 +22,26 @@ use Rattle.ob0_world.specs.Worlds.{GetsFirst, TakesFirst}
 use Rattle.ob0_world.proofs.Answering.{Served, served, runs_on}
 use Rattle.ob0_world.proofs.Waiting.{said_append, said_first, all_appended}
 
--- all contents that were sent are understood
+-- If the editor understands all contents by their bytes, all are messages to it.
 each_understood : (requested : List SentAsk) (sent : Contents) → All (λ content. (m : ToEditor) × (understood requested content ≡ Some m)) (bytes sent) → All (IsUnderstood requested) sent
 each_understood requested [] all = All-nil (IsUnderstood requested)
 each_understood requested (c ∷ sent) all =
     All-cons (IsUnderstood requested) c sent (All-head (λ content. (m : ToEditor) × (understood requested content ≡ Some m)) c.items (bytes sent) all)
     (each_understood requested sent (All-tail (λ content. (m : ToEditor) × (understood requested content ≡ Some m)) c.items (bytes sent) all))
 
--- the first message is that of the first content
+-- The publication of the first content is the publication of the first message.
 made_as_sent : (held : OpenDocuments) (requested : List SentAsk) (sent : Contents) → All (IsUnderstood requested) sent → made_sent held requested sent ≡ made_first held (all_understood requested sent)
 made_as_sent held requested [] all = refl
 made_as_sent held requested (c ∷ sent) all =
     let first : IsUnderstood requested c = All-head (IsUnderstood requested) c sent all in
     ap (option_and_then (made_for held)) first.1 ∙ ap (made_first held) (sym (said_first (understood requested) c sent first.0 first.1))
 
--- one that replies hasn't failed
+-- A session that replies hasn't failed.
 not_failed : (s s' : ServerState) (content : List ℕ) (sent : List (List ℕ)) → IsRunningOrFailed s → Answers s content sent s' → IsRunning s
 not_failed s s' content sent (inl running) answers = running
 not_failed s s' content sent (inr over) answers = absurd (subst (λ phase. AnswersInState phase s content sent s') over answers)
 
--- the session was handed the first content
+-- states that the session took the first waiting content, which is a message, and replied to it
 pub record Turn (e : Editor) (q rest : Contents) (s s' : ServerState) (content : Vec ℕ Global) (sent : Contents) : Type 0 where
   pub message : ToServer
   pub says : SaysToServer e.requested message content.items

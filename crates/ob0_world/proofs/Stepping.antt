@@ -1,4 +1,4 @@
--- What a step makes of a world.
+-- Proves the clauses of a world's step.
 use Rattle.std.proofs.Common.{◌≡◌, ◌+◌, false, [], ◌∷◌, ◌++◌, refl, sym, subst}
 use Rattle.ob0_world_rules.specs.ClientAndServer.{ClientAndServer, start}
 use Rattle.ob0_world_rules.specs.Happens.{Event, Happens}
@@ -18,7 +18,7 @@ pub made_step : (w old : World) (event : Event) (seen : Seen) (new : World) → 
 made_step w old event seen new same on shows moves tied counted goes_on =
     subst (λ (x : World). WorldSteps x event seen new) same (subst (λ b. StepsFrom b w event seen new) (sym on) (record { made = record { happens = shows.0; moves = moves; tied = tied }; shown = shows.1; counted = counted; goes_on = goes_on }))
 
--- what is known of a step of a world that hasn't ended
+-- A step of a world that hasn't ended is a step that is made and counted.
 pub step_made : (old : World) (event : Event) (seen : Seen) (new : World) → old.ended ≡ false → WorldSteps old event seen new → StepsFrom false old event seen new
 step_made old event seen new on steps = subst (λ b. StepsFrom b old event seen new) on steps
 

@@ -1,4 +1,4 @@
--- What the contents that wait say is what the model has in its queues.
+-- Proves that the waiting contents are the messages in the model's queues.
 use Rattle.std.proofs.Common.{◌≡◌, ◌∙◌, List, [], ◌∷◌, Some, refl, sym, ap, subst}
 use Rattle.std.specs.Prelude.{All, map}
 use Rattle.std.proofs.lemmas.List.Elements.{All-head, All-tail}

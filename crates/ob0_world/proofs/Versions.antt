@@ -1,5 +1,6 @@
--- An answer names what was asked about: the server, as it takes a request, holds the document with the version that the
--- editor had when it sent that (`AsksHeld`, by the mirror), and a session writes the version that it holds.
+-- Proves that an answer with edits mentions the document that was asked about. When the server takes a request, its
+-- document has the version that the editor had when it sent the request (`AsksHeld`). A session writes the version that
+-- it has.
 use Rattle.std.proofs.Common.{◌≡◌, ◌∙◌, ℕ, suc, Bool, true, false, cond, List, [], ◌∷◌, ◌++◌, length, append-nil, refl, sym, ap, subst, inl, inr, ◌+◌, ◌&&◌}
 use Rattle.std.specs.Prelude.{◌⊎◌, ⊤, ℤ, pos, negsuc, Vec, All, Option, Some, None, is_some, fold, option_map, option_and_then, codes, Ok, ◌==◌}
 use Rattle.std.specs.declared.alloc.Global.{Global}
@@ -49,14 +50,15 @@ use Rattle.ob0_world.proofs.Stepping.{reached_start, reached_more, reached_mirro
 
 -- ---- what the server holds as it takes a request
 
--- the document has the version that it had when request k was sent
+-- states that the document has the version that it had when request k was sent
 pub record IsHeldAsAsked (requested : List SentAsk) (held : OpenDocuments) (k : ℕ) (uri : List ℕ) : Type 0 where
   pub sent : SentAsk
   pub is : request_numbered requested k ≡ Some sent
   pub text : List ℕ
   pub holds : document_at held uri ≡ Some (InStep (pos sent.version) text)
 
--- of each request that waits, once the server has taken what is before it
+-- holds if the server, when it takes each waiting request, has the document with the version that it had when the
+-- request was sent
 abbrev pub AsksHeld : List SentAsk → OpenDocuments → List ToServer → Type 0
 AsksHeld requested held [] = ⊤
 AsksHeld requested held (notifies note ∷ rest) = AsksHeld requested (after_event held note) rest
@@ -73,7 +75,7 @@ asks_append requested held [] more h k = k
 asks_append requested held (notifies note ∷ rest) more h k = asks_append requested (after_event held note) rest more h k
 asks_append requested held (requests n uri ask ∷ rest) more (h, others) k = (h, asks_append requested held rest more others k)
 
--- the first message, and those after it
+-- If the property holds of a queue, it holds of its first message, and of the rest after that message.
 sees_first : (requested : List SentAsk) (held : OpenDocuments) (m : ToServer) (rest : List ToServer) → AsksHeld requested held (m ∷ rest) → AsksHeld requested held (m ∷ []) × AsksHeld requested (after_message held m) rest
 sees_first requested held (notifies note) rest h = (tt, h)
 sees_first requested held (requests k uri ask) rest h = ((h.0, tt), h.1)
@@ -130,7 +132,7 @@ same_data content d e one other = same_Some d e (sym one.1 ∙ other.1)
 abbrev Names : List SentAsk → ℕ → Data → Type 0
 Names requested k answer = (a : SentAsk) × (request_numbered requested k ≡ Some a) × NamesAsked a answer
 
--- one message was sent
+-- If one message is sent, `NamesItsAsk` holds of the sent contents if it holds of that message.
 sent_one : (requested : List SentAsk) (message : Data) (sent : List (List ℕ)) → Sends message sent → ((k : ℕ) → option_and_then request_number (get (codes "id") message) ≡ Some k → Names requested k message) → All (NamesItsAsk requested) sent
 sent_one requested message sent (content, is, writes) names =
     subst (All (NamesItsAsk requested)) (sym is) (All-push (NamesItsAsk requested) [] content (All-nil (NamesItsAsk requested)) this)
@@ -143,7 +145,7 @@ sent_one requested message sent (content, is, writes) names =
 sent_none : (requested : List SentAsk) (sent : List (List ℕ)) → sent ≡ [] → All (NamesItsAsk requested) sent
 sent_none requested sent none = subst (All (NamesItsAsk requested)) (sym none) (All-nil (NamesItsAsk requested))
 
--- a publication answers no request
+-- A publication answers no request, so `NamesItsAsk` holds of it.
 published_names : (requested : List SentAsk) (unit : Unit) (uri : List ℕ) (o : Option Document) (sent : List (List ℕ)) → SaysReply (published unit uri o) sent → All (NamesItsAsk requested) sent
 published_names requested unit uri (Some (InStep version text)) sent (ds, diagnoses, sends) = sent_one requested (publication uri (Some version) ds) sent sends (λ k numbered. absurd (none-some k numbered))
 published_names requested unit uri (Some OutOfStep) sent saying = sent_none requested sent saying
@@ -165,7 +167,7 @@ integer_back : (z : ℤ) → as_integer (of_integer z) ≡ Some z
 integer_back (pos n) = refl
 integer_back (negsuc n) = refl
 
--- the version that is written is read back
+-- The uri and the version that a WorkspaceEdit has are read back.
 edit_names : (client : Client) (uri : List ℕ) (version : ℤ) (edits : List Edit) → client.takes_document_changes ≡ true → named_by_edit (workspace_edit client uri version edits) ≡ Some (uri, version)
 edit_names client uri version edits takes = go client.takes_document_changes takes
   where
@@ -241,7 +243,7 @@ module _ (requested : List SentAsk) (k : ℕ) (uri : List ℕ) (sent : List (Lis
       go (inr (inl (long, is))) = refusal_names (format indent) of (minus 32803) (refusal_text TooLong) message sends is
       go (inr (inr (unfit, is))) = refusal_names (format indent) of (minus 32803) (codes "ill-typed") message sends is
 
-  -- a request about a document that is held, while the session runs
+  -- `NamesItsAsk` holds of the answer of a running session to a request about a document in step.
   request_names : (ask : Ask) (of : IsAsk requested k uri ask) (params : Data) (before : ServerState) (text : List ℕ) → IsRunning before → document_at before.held uri ≡ Some (InStep (pos of.sent.version) text) → request_by_method (method_of ask) params ≡ Ok (call_for uri ask)
       → SaysReply (answer_method before (number (unsigned k)) (method_of ask) params).say sent → All (NamesItsAsk requested) sent
   request_names (rename position name) of params before text running holds call saying =
@@ -265,7 +267,7 @@ module _ (requested : List SentAsk) (k : ℕ) (uri : List ℕ) (sent : List (Lis
       let so : answer_method before id (method_of (format indent)) params ≡ answers_about before id (document_at before.held uri) say = ap (answer_request before id) call in
       layout_names indent of before.held.unit text (subst (λ (x : Reaction). SaysReply x.say sent) (so ∙ ap (λ o. answers_about before id o say) holds) saying)
 
--- what is sent for a message
+-- `NamesItsAsk` holds of the replies to each message.
 content_names : (requested : List SentAsk) (m : ToServer) (before after : ServerState) (content : List ℕ) (sent : List (List ℕ)) → IsRunning before → SaysToServer requested m content → Answers before content sent after → AsksHeld requested before.held (m ∷ []) → All (NamesItsAsk requested) sent
 content_names requested (notifies note) before after content sent running is h meets =
     let going : AnswersGoingOn before content sent after = subst (λ phase. AnswersInState phase before content sent after) running.0 h in
@@ -317,7 +319,7 @@ serve_known old new (m ∷ rest) (content ∷ contents) waits (says_this, others
 serve_known old new [] (content ∷ contents) waits says_all happens moves k tied reached = absurd says_all
 serve_known old new (m ∷ rest) [] waits says_all happens moves k tied reached = absurd says_all
 
--- the editor has taken a message: what it requested and what waits for the server is as it was
+-- Taking a message changes neither the editor's requests nor the messages that wait for the server.
 take_keeps : (w : ClientAndServer) (queue : List ToEditor) (contents : List (List ℕ)) → AsksOf w → All (NamesItsAsk w.editor.requested) contents → AsksOf (after_taking w queue) × All (NamesItsAsk (after_taking w queue).editor.requested) contents
 take_keeps w [] contents asked named = (asked, named)
 take_keeps w (publishes uri version empty ∷ rest) contents asked named = (asked, named)

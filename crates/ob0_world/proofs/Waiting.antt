@@ -1,4 +1,5 @@
--- Contents that wait say the same after further requests, and what they say as the queues grow and shrink.
+-- Proves that waiting contents keep their meaning after further requests, and which messages a queue has after a
+-- content is added or removed.
 use Rattle.std.proofs.Common.{◌≡◌, ◌∙◌, ℕ, Bool, true, false, cond, List, [], ◌∷◌, ◌++◌, Option, Some, None, refl, sym, ap, subst}
 use Rattle.std.specs.Prelude.{All, Vec, is_some, filter_map, option_map, option_and_then, codes}
 use Rattle.std.specs.List.{cons_option}
@@ -19,7 +20,7 @@ use Rattle.ob0_world.specs.Queues.{Contents, bytes, all_heard, all_understood, I
 
 -- ---- more asks
 
--- a content is read the same after further asks, and with other ids for the same asks
+-- A content is read the same after further asks, and with other ids for the same asks.
 module _ (f g : Data → Option ℕ) (requested more : List SentAsk) (grows : (d : Data) (k : ℕ) (a : SentAsk) → request_numbered requested k ≡ Some a → f d ≡ Some k → g d ≡ Some k) where
   answer_still : (d : Data) (o : Option Data) (m : ToEditor) → option_and_then (answer_to requested d) (option_and_then f o) ≡ Some m → option_and_then (answer_to (requested ++ more) d) (option_and_then g o) ≡ Some m
   answer_still d None m h = absurd (none-some m h)

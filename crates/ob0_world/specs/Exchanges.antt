@@ -1,5 +1,6 @@
--- Defines what an editor that keeps ob0's rules and a session exchange, and states what then holds. The
--- session is any that the protocol (`Answers`) allows: no server of the model is part of it.
+-- Defines the exchanges of a session and an editor that keeps ob0's rules, and states the
+-- guarantees for them. The session may be any that the protocol (`Answers`) allows: no server of
+-- the model is part of it.
 -- Rule: LSP 3.17; for a law of every editor with a session.
 use Rattle.std.specs.Prelude.{◌≡◌, ◌⊎◌, ◌<◌, ◌≤◌, ◌==◌, map, filter_map, ⊤, ℕ, ℤ, pos, List, [], ◌∷◌, ◌++◌, All, fold, Bool, true, false, Option, Some, None, MatchOption, option_map, option_and_then, Result, Ok, Err, if◌then◌else◌, codes}
 use Rattle.std.specs.Str.{bytes_eq}
@@ -36,12 +37,13 @@ use Rattle.ob0_world.specs.Worlds.{Wire, Connection, Begins, ConnectionCourse, T
 
 -- ---- the ids of requests
 
--- an id of a request: a whole number that isn't negative, or a text (JSON-RPC 2.0, request object)
+-- a request's id: a whole number that isn't negative, or a text (JSON-RPC 2.0, request object)
 pub data Id : Type 0 where
   number_id : ℕ → Id
   text_id : List ℕ → Id
 
--- returns the id that a JSON value is, if it is such an id
+-- Returns the id that a JSON value means. None if it is neither a whole number that isn't negative
+-- nor a text.
 abbrev pub id_read : Data → Option Id
 id_read (number (unsigned n)) = Some (number_id n)
 id_read (number (negative z)) = None
@@ -52,28 +54,30 @@ id_read (string text) = Some (text_id text)
 id_read (array ds) = None
 id_read (object ms) = None
 
--- returns whether two ids are the same
+-- true if the two ids are equal
 abbrev pub same_id : Id → Id → Bool
 same_id (number_id n) (number_id m) = n == m
 same_id (number_id n) (text_id t) = false
 same_id (text_id s) (number_id m) = false
 same_id (text_id s) (text_id t) = bytes_eq s t
 
--- a request that the editor sent: its id, and the number of its ask, if it is one
+-- a request that the editor sent: its id, and the number of its ask if it is one
 pub record SentId : Type 0 where
   pub id : Id
   pub ask : Option ℕ
 
--- finds the first request with this id, and returns the number of its ask, if it is one
+-- Finds the first request with this id, and returns the number of its ask: `Some None` if it isn't
+-- an ask. None if no request has this id.
 abbrev pub sent_with : List SentId → Id → Option (Option ℕ)
 sent_with [] id = None
 sent_with (s ∷ sent) id = if same_id s.id id then Some s.ask else sent_with sent id
 
--- returns the number of the ask that has this id
+-- Returns the number of the ask with this id. None if there is none.
 abbrev pub ask_with : List SentId → Data → Option ℕ
 ask_with sent id = option_and_then (λ ask. ask) (option_and_then (sent_with sent) (id_read id))
 
--- states that each ask that is sent has an id that no request had before
+-- holds if each ask that is sent gets an id that no request had before, and `new` are the ids after
+-- that
 abbrev pub NamesAsks : List SentId → List ToServer → List SentId → Type 0
 NamesAsks ids [] new = new ≡ ids
 NamesAsks ids (notifies note ∷ sent) new = NamesAsks ids sent new
@@ -82,20 +86,20 @@ NamesAsks ids (requests k uri ask ∷ sent) new =
     × (sent_with ids id ≡ None)
     × NamesAsks (ids ++ record { id = id; ask = Some k } ∷ []) sent new
 
--- returns the ids after another request with this id, if it is such an id
+-- returns the ids after a request that isn't an ask; without a valid id nothing is added
 abbrev pub with_other : List SentId → Option Id → List SentId
 with_other ids None = ids
 with_other ids (Some id) = ids ++ record { id = id; ask = None } ∷ []
 
--- states that it is the id of another request, and of no ask
+-- holds if the id isn't valid, or belongs to a request that isn't an ask
 abbrev pub IsOtherId : List SentId → Option Id → Type 0
 IsOtherId ids None = ⊤
 IsOtherId ids (Some id) = sent_with ids id ≡ Some None
 
 -- ---- an editor and a session
 
--- an editor and a session, with the contents that pass; the ids of the requests that the editor
--- sent, the documents that it announced, and the edits that it applied
+-- An editor and a session with the contents that pass between them. It also has the ids of the
+-- requests that the editor sent, the documents that it announced and the edits that it applied.
 pub record Exchange : Type 0 where
   pub editor : Editor
   pub ids : List SentId
@@ -103,8 +107,8 @@ pub record Exchange : Type 0 where
   pub announced : List Announced
   pub applied : List Applied
 
--- States that the session was initialized by a client that counts positions in this unit. No document
--- is open and nothing waits, so the ids used until now may be used again.
+-- States that the session was initialized by a client that counts positions in this unit. No
+-- document is open and nothing waits. The ids that were used until now may be used again.
 pub record BeginsExchange (unit : Unit) (x : Exchange) : Type 0 where
   pub client : Client
   pub counts : unit_for client ≡ unit
@@ -128,8 +132,8 @@ pub record BeginsExchange (unit : Unit) (x : Exchange) : Type 0 where
 
 -- ---- other messages
 
--- States that a request changes nothing: it is a question, a request for edits that the editor drops,
--- or a request that the server doesn't know or can't read.
+-- Holds if a request changes nothing. That is a question, a request for edits that the editor
+-- drops, or a request that the server doesn't know or can't read.
 abbrev pub IsQuestion : Result ClientRequest RpcFault → Type 0
 IsQuestion (Ok (asked.initialize client)) = ⊥
 IsQuestion (Ok asked.shutdown) = ⊥
@@ -142,8 +146,8 @@ IsQuestion (Ok (asked.code_action uri range only)) = ⊤
 IsQuestion (Ok (asked.formatting uri indent)) = ⊤
 IsQuestion (Err fault) = ⊤
 
--- States that a message opens, changes and closes no document, and requests no edit that is applied: it
--- is a request that changes nothing, a notification that the server ignores, or a response.
+-- Holds if a message opens, changes and closes no document, and requests no edit that is applied.
+-- That is a request that changes nothing, a notification that the server ignores, or a response.
 abbrev pub IsOtherMessage : List SentId → MessageMeaning → Type 0
 IsOtherMessage ids not_json = ⊥
 IsOtherMessage ids not_a_message = ⊥
@@ -154,19 +158,19 @@ IsOtherMessage ids (request id method params) =
     × IsOtherId ids (id_read id)
 IsOtherMessage ids (notice method params) = note_of method params ≡ other
 
--- states that a content is such a message
+-- holds if a content is such another message (`IsOtherMessage`)
 abbrev pub IsOther : List SentId → List ℕ → Type 0
 IsOther ids content =
     (json : Data) × ReadsContent content (Some json) × IsOtherMessage ids (meaning_of json)
 
 -- ---- asks and notifications
 
--- states that a position isn't after another
+-- holds if position p isn't after position q
 abbrev pub IsNotAfter : Position → Position → Type 0
 IsNotAfter p q = (p.line < q.line) ⊎ ((p.line ≡ q.line) × (p.character ≤ q.character))
 
--- States that the content is a request with this id for the code actions in a range that begins at this
--- position, of all kinds or of some that include inlining.
+-- States that the content is a request for code actions, with this id. Its range begins at this
+-- position and doesn't end before it. It is for all kinds, or for some that include inlining.
 pub record IsActionsRequest (id : Data) (uri : List ℕ) (position : Position) (content : List ℕ)
     : Type 0 where
   pub json : Data
@@ -182,7 +186,8 @@ pub record IsActionsRequest (id : Data) (uri : List ℕ) (position : Position) (
   pub ordered : IsNotAfter range.start range.end
   pub allowed : allows_inlining only ≡ true
 
--- states that the content is the request with this id for this ask; an inlining requests code actions
+-- holds if the content is the request with this id for this ask; for an inlining it requests code
+-- actions
 abbrev pub IsRequestFor : Data → List ℕ → Ask → List ℕ → Type 0
 IsRequestFor id uri (rename position name) content =
     IsRequestWithId id uri (rename position name) content
@@ -190,25 +195,25 @@ IsRequestFor id uri (inline_here position) content = IsActionsRequest id uri pos
 IsRequestFor id uri (inline_all position) content = IsActionsRequest id uri position content
 IsRequestFor id uri (format indent) content = IsRequestWithId id uri (format indent) content
 
--- states that the client takes code actions with edits, and edits of documents with versions
+-- holds if the client accepts code actions with edits, and edits with document versions
 abbrev pub TakesActions : Client → Type 0
 TakesActions client =
     (client.takes_document_changes ≡ true) × (client.takes_literal_actions ≡ true)
 
--- states that the client takes the edits of such an ask
+-- holds if the client accepts the edits of this ask
 abbrev pub TakesEdits : Client → Ask → Type 0
 TakesEdits client (rename position name) = client.takes_document_changes ≡ true
 TakesEdits client (inline_here position) = TakesActions client
 TakesEdits client (inline_all position) = TakesActions client
 TakesEdits client (format indent) = ⊤
 
--- states that ask k has this id
+-- states that ask k is this ask about this document and has this id
 pub record IsAskWithId (ids : List SentId) (requested : List SentAsk) (id : Data) (k : ℕ)
     (uri : List ℕ) (ask : Ask) : Type 0 where
   pub numbered : ask_with ids id ≡ Some k
   pub is : IsAsk requested k uri ask
 
--- states that the content is this message to the session of this client
+-- holds if the content is this message to the session of this client
 abbrev pub SaysToSession : Client
     → List SentId
     → List SentAsk
@@ -222,7 +227,7 @@ SaysToSession client ids requested (requests k uri ask) content =
     × IsAskWithId ids requested id k uri ask
     × TakesEdits client ask
 
--- states that each content is its message to the session, or another message for `None`
+-- holds if each content is its message to the session; a `None` stands for another message
 abbrev pub EachSays : Client
     → List SentId
     → List SentAsk
@@ -241,16 +246,17 @@ EachSays client ids requested (None ∷ messages) [] = ⊥
 
 -- ---- what may happen
 
--- returns the message that the editor reads in a content
+-- Returns the message that the editor reads in a content. None if it reads none.
 abbrev pub read_by : List SentId → List SentAsk → List ℕ → Option ToEditor
 read_by ids requested content = read_so (ask_with ids) requested content
 
--- returns the editor after it has read a message: it keeps an answer with edits to one of its asks
+-- Returns the editor after it has read a message. The editor keeps an answer with edits to one of
+-- its asks, and nothing else.
 abbrev pub reads_meaning : Editor → Option ToEditor → Editor
 reads_meaning e None = e
 reads_meaning e (Some message) = reads e message
 
--- states that the editor gets the first content that waits for it
+-- holds if the editor gets the first content that waits for it; if none waits, nothing changes
 abbrev pub GetsOne : List (List ℕ) → Exchange → Exchange → Type 0
 GetsOne [] old new = new ≡ old
 GetsOne (content ∷ rest) old new =
@@ -264,7 +270,7 @@ GetsOne (content ∷ rest) old new =
 abbrev pub with_contents : Wire → List (List ℕ) → Wire
 with_contents wire contents = record wire { to_server = wire.to_server ++ contents }
 
--- states that this turn may lead from `old` to `new`
+-- holds if this turn may lead from `old` to `new`
 abbrev pub Exchanges : Exchange → Turn → Exchange → Type 0
 Exchanges old (editor_does move) new =
     (done : Done)
@@ -297,7 +303,7 @@ Exchanges old server_takes new =
     × (new ≡ record old { wire = wire })
 Exchanges old editor_takes new = GetsOne old.wire.to_editor old new
 
--- states that these turns, one after another, may lead from one to the other
+-- holds if these turns, one after another, may lead from `old` to `new`
 abbrev pub ExchangeLeads : Exchange → List Turn → Exchange → Type 0
 ExchangeLeads old [] new = new ≡ old
 ExchangeLeads old (turn ∷ turns) new =
@@ -305,13 +311,13 @@ ExchangeLeads old (turn ∷ turns) new =
 
 -- ---- the law
 
--- states that the editor reads no message in the content, whatever is requested later
+-- holds if the editor reads no message in the content, whatever it requests later
 abbrev pub BringsNothing : List SentId → List ℕ → Type 0
 BringsNothing ids content =
     (later : List SentId) (requested : List SentAsk)
     → read_by (ids ++ later) requested content ≡ None
 
--- states that the editor reads its message in each content, and none in another content
+-- holds if the editor reads its message in each content; for a `None` it reads no message
 abbrev pub EachMeans : List SentId
     → List SentAsk
     → List (Option ToEditor)
@@ -326,9 +332,10 @@ EachMeans ids requested [] (content ∷ contents) = ⊥
 EachMeans ids requested (Some m ∷ messages) [] = ⊥
 EachMeans ids requested (None ∷ messages) [] = ⊥
 
--- States that an exchange follows the model of every editor, turn by turn: its editor has the documents
--- and answers of the model's editor, its session has the documents of the model's server, and its unread
--- contents say the model's unread messages. Each promise about every editor therefore holds here.
+-- States that an exchange follows the model of every editor, turn by turn. Its editor has the
+-- documents and answers of the model's editor, and its session has the documents of the model's
+-- server. Its unread contents are the model's unread messages. So each guarantee about every editor
+-- holds here.
 pub record IsOfTheModel (unit : Unit) (turns : List Turn) (x : Exchange) : Type 0 where
   pub model : EditorAndServer
   pub leads : MayLead (nothing_yet unit) turns model
@@ -340,11 +347,11 @@ pub record IsOfTheModel (unit : Unit) (turns : List Turn) (x : Exchange) : Type 
       x.wire.to_server
   pub means : EachMeans x.ids x.editor.requested model.to_editor x.wire.to_editor
   pub holds : HoldsWithEditor model
-  -- and all of it is one conversation of a session
+  -- everything that was exchanged is one conversation of a session
   pub conversation : Conversation server.start x.wire.taken (x.wire.got ++ x.wire.to_editor)
       x.wire.session
 
--- states that it holds with every editor that keeps ob0's rules, and every session
+-- states that every exchange of a session and an editor that keeps ob0's rules follows the model
 abbrev pub EveryExchangeIsOfTheModel : Type 0
 EveryExchangeIsOfTheModel =
     (unit : Unit) (begin now : Exchange) (turns : List Turn)
@@ -354,7 +361,7 @@ EveryExchangeIsOfTheModel =
 
 -- ---- the end
 
--- states that the content is the request `shutdown`, with this id
+-- states that the content is the request `shutdown` with this id
 pub record IsShutdown (id : Data) (content : List ℕ) : Type 0 where
   pub json : Data
   pub reads : ReadsContent content (Some json)
@@ -368,8 +375,8 @@ pub record IsExit (content : List ℕ) : Type 0 where
   pub params : Data
   pub means : meaning_of json ≡ notice (codes "exit") params
 
--- States that a session has sent the answer to `shutdown` and nothing else, has ended with status 0,
--- and has the same documents.
+-- States that a session has sent the answer to `shutdown` and nothing else. It has ended with
+-- status 0, and has the same documents.
 pub record EndsSession (id : Data) (before : ServerState) (sent : List (List ℕ)) (end : ServerState)
     : Type 0 where
   pub answer : Sends (result_message id null) sent
@@ -384,7 +391,7 @@ pub record Published : Type 0 where
   pub version : ℤ
   pub empty : Bool
 
--- returns the message if it is such a list
+-- returns the message in a list if it is a list of diagnostics with a version, else an empty list
 abbrev pub with_version : Option ToEditor → List Published
 with_version (Some (publishes uri (Some version) empty)) =
     record { uri = uri; version = version; empty = empty } ∷ []
@@ -392,13 +399,14 @@ with_version (Some (publishes uri None empty)) = []
 with_version (Some (answers k edits)) = []
 with_version None = []
 
--- returns the lists of diagnostics with a version among these contents
+-- returns the lists of diagnostics with a version among these contents, in order
 abbrev pub published_in : List (List ℕ) → List Published
 published_in [] = []
 published_in (content ∷ contents) = with_version (understood [] content) ++ published_in contents
 
--- States that there are as many lists as documents, and that the n-th list has the uri and version of
--- the n-th document and is empty exactly when its text is a well-typed module.
+-- Holds if there are as many lists of diagnostics as documents. The n-th list has the uri and
+-- version of the n-th document, and is empty exactly when that document's text is a well-typed
+-- module.
 abbrev pub AreRightOf : List Published → List Announced → Type 0
 AreRightOf [] [] = ⊤
 AreRightOf (p ∷ published) (t ∷ announced) =
@@ -409,49 +417,50 @@ AreRightOf (p ∷ published) (t ∷ announced) =
 AreRightOf [] (t ∷ announced) = ⊥
 AreRightOf (p ∷ published) [] = ⊥
 
--- returns the last list for a uri
+-- Returns the last list of diagnostics for a uri. None if there is none.
 abbrev pub last_published : List ℕ → List Published → Option Published
 last_published uri published =
     fold (λ last p. if bytes_eq p.uri uri then Some p else last) None published
 
--- Returns the messages in these contents that open, change or close documents.
+-- Returns the notifications in these contents that open, change or close documents.
 abbrev pub notes_in : List (List ℕ) → List ToServer
 notes_in contents = filter_map (heard []) contents
 
--- States what holds of an editor that keeps ob0's rules and a session, whatever they have exchanged.
+-- States the guarantees for a session and an editor that keeps ob0's rules, whatever they have
+-- exchanged.
 pub record HoldsOfExchange (begin now : Exchange) : Type 0 where
   -- each edit that the editor applied keeps the run
   pub applied : All KeepsTheRun now.applied
-  -- the lists of diagnostics with a version that the session has sent since the beginning are right,
-  -- and are for the first documents that the editor announced, in order
+  -- The lists of diagnostics with a version that the session has sent since the beginning are
+  -- right. They are for the first documents that the editor announced, in order.
   pub since : List (List ℕ)
   pub sent : now.wire.got ++ now.wire.to_editor ≡ begin.wire.got ++ since
   pub published_of : List Announced
   pub not_yet : List Announced
   pub announced : now.announced ≡ published_of ++ not_yet
   pub right : AreRightOf (published_in since) published_of
-  -- contents that still wait for the session announce the other documents
+  -- the contents that still wait for the session announce the other documents
   pub still_wait : map versioned_uri not_yet ≡ named_in (notes_in now.wire.to_server)
-  -- when no content that waits opens, changes or closes a document, the latest list of each open
-  -- document is for its present version and text
+  -- If no waiting content opens, changes or closes a document, the latest list of each open
+  -- document is for its present version and text.
   pub latest : notes_in now.wire.to_server ≡ [] → (uri : List ℕ) (d : Open)
       → open_at now.editor uri ≡ Some d
       → MatchOption (last_published uri (published_in since)) ⊥
       (λ p. (p.version ≡ pos d.version) × IsEmptyIfCorrect d.text p.empty)
-  -- the session's documents, after it has taken the waiting contents, are the editor's
+  -- once the session has taken the waiting contents, its documents are the editor's
   pub mirrors : (uri : List ℕ)
       → document_at (fold after_message now.wire.session.held (notes_in now.wire.to_server)) uri
       ≡ option_map as_open (open_at now.editor uri)
   -- everything that was exchanged is one conversation of a session, by the protocol
   pub conversation : Conversation server.start now.wire.taken
       (now.wire.got ++ now.wire.to_editor) now.wire.session
-  -- the session ends well when it then takes `shutdown` and `exit`
+  -- if the session then takes `shutdown` and `exit`, it ends with status 0
   pub ends : (id : Data) (shutdown exit : List ℕ) → IsShutdown id shutdown → IsExit exit
       → (sent : List (List ℕ)) (end : ServerState)
       → Conversation now.wire.session (shutdown ∷ exit ∷ []) sent end
       → EndsSession id now.wire.session sent end
 
--- states that it holds with every editor that keeps ob0's rules, and every session
+-- states that the guarantees hold with every editor that keeps ob0's rules, and every session
 abbrev pub EveryExchangeHolds : Type 0
 EveryExchangeHolds =
     (unit : Unit) (begin now : Exchange) (turns : List Turn)
@@ -461,8 +470,9 @@ EveryExchangeHolds =
 
 -- ---- what a world plays
 
--- States that each course of the model's editor with a session is such an exchange. Each promise about
--- exchanges therefore holds for every list of events that `play` plays.
+-- States that each course of the model's editor with a session is an exchange of an editor that
+-- keeps ob0's rules. So each guarantee about exchanges holds for every list of events that `play`
+-- plays.
 abbrev pub ACourseIsAnExchange : Type 0
 ACourseIsAnExchange =
     (unit : Unit) (begin end : Connection) (events : List Event)

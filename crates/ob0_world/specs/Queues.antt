@@ -1,9 +1,11 @@
--- Defines the meaning of the stored client and server: the view of the code, its invariant, and the
--- clauses of private functions. No contract of a public function mentions these.
--- A queue of contents is a function of it (`all_heard`, `all_understood`); the invariant states that each content is
--- a message. A content keeps its meaning when more is requested (`Waiting`). `IsRunning` states that the session serves
--- this editor: its client takes edits of versioned documents, and code actions as literals, as the editor's
--- `initialize` says. So a WorkspaceEdit is always written as `documentChanges`, and the editor reads only that form.
+-- Defines the meaning of the client and server that the code stores: the view, the invariant, and
+-- the clauses of private functions. No contract of a public function mentions these.
+-- The messages of a queue are a function of its contents (`all_heard`, `all_understood`). The
+-- invariant states that each content is a message, and a content keeps its meaning when more is
+-- requested (`Waiting`).
+-- `IsRunning` states that the session serves this editor: by the editor's `initialize`, its client
+-- accepts edits with document versions, and literal code actions. So a WorkspaceEdit is always
+-- written as `documentChanges`, and the editor reads only that form.
 -- Rule: none; for contracts: contents that wait, and what they say.
 use Rattle.std.specs.Prelude.{◌≡◌, ◌≤◌, ◌⊎◌, ℕ, ℤ, List, [], ◌∷◌, ◌++◌, map, length, All, Bool, true, Option, Some, None, Vec, option_and_then, filter_map}
 use Rattle.std.specs.declared.alloc.Global.{Global}
@@ -28,66 +30,69 @@ use Rattle.ob0_world.specs.Worlds.{Wire, Connection}
 abbrev pub Contents : Type 0
 Contents = List (Vec ℕ Global)
 
--- returns the messages to the server in these contents, when these asks were sent
+-- returns the messages to the server in these contents, if these asks were sent
 abbrev pub all_heard : List SentAsk → Contents → List ToServer
 all_heard requested contents = filter_map (heard requested) (bytes contents)
 
--- returns the messages to the editor in these contents, when these asks were sent
+-- returns the messages to the editor in these contents, if these asks were sent
 abbrev pub all_understood : List SentAsk → Contents → List ToEditor
 all_understood requested contents = filter_map (understood requested) (bytes contents)
 
--- states that a content is a message to the server
+-- holds if a content is a message to the server
 abbrev pub IsHeard : List SentAsk → Vec ℕ Global → Type 0
 IsHeard requested content = (m : ToServer) × SaysToServer requested m content.items
 
--- states that a content is a message to the editor
+-- holds if a content is a message to the editor
 abbrev pub IsUnderstood : List SentAsk → Vec ℕ Global → Type 0
 IsUnderstood requested content = (m : ToEditor) × (understood requested content.items ≡ Some m)
 
 -- ---- the session
 
--- States that a session has begun with this editor and hasn't ended: it writes the edits of a workspace
--- with the versions of their documents, and offers code actions as literals.
+-- Holds if a session has begun with this editor and hasn't ended. The session then writes a
+-- workspace's edits with document versions, and offers literal code actions.
 abbrev pub IsRunning : ServerState → Type 0
 IsRunning s =
     (s.phase ≡ Running)
     × (s.client.takes_document_changes ≡ true)
     × (s.client.takes_literal_actions ≡ true)
 
--- states that the session runs with this editor, or has failed
+-- holds if the session runs with this editor, or has failed
 abbrev pub IsRunningOrFailed : ServerState → Type 0
 IsRunningOrFailed s = IsRunning s ⊎ (s.phase ≡ Failed)
 
 -- ---- publications
 
--- returns the publication with the document's present text, for which it was made
+-- Returns the publication with its document's present text, for which it was made. None if the
+-- document is out of step.
 abbrev pub made_of_document : List ℕ → ℤ → Bool → Document → Option Made
 made_of_document uri version empty (InStep held text) =
     Some (record { uri = uri; version = version; text = text; empty = empty })
 made_of_document uri version empty OutOfStep = None
 
--- returns the publication with the text that it was made for, if it has a version
+-- Returns the message as a publication, with the text that it was made for. None if it isn't a
+-- publication with a version, or if its document isn't open or is out of step.
 abbrev pub made_for : OpenDocuments → ToEditor → Option Made
 made_for held (publishes uri (Some version) empty) =
     option_and_then (made_of_document uri version empty) (document_at held uri)
 made_for held (publishes uri None empty) = None
 made_for held (answers k edits) = None
 
--- returns this for the first message: a server replies with one message at most
+-- Returns the publication that the first message is, if it is one with a version. A server replies
+-- with one message at most.
 abbrev pub made_first : OpenDocuments → List ToEditor → Option Made
 made_first held [] = None
 made_first held (m ∷ ms) = made_for held m
 
 -- ---- the whole
 
--- states that the contents that wait are messages, and that the session runs unless an allocation failed
+-- states that the contents that wait are messages, and that the session runs or has failed
 pub record Sound (requested : List SentAsk) (to_server to_editor : Contents)
     (session : ServerState) : Type 0 where
   pub heard_all : All (IsHeard requested) to_server
   pub understood_all : All (IsUnderstood requested) to_editor
   pub running : IsRunningOrFailed session
 
--- returns client and server of the model from the stored parts
+-- returns the model's client and server, made of the parts that the code stores
 abbrev pub model_from : Editor
     → Contents
     → ServerState
@@ -105,7 +110,7 @@ model_from e to_server session to_editor applied made =
       made = map publication_of made;
     }
 
--- returns the session and the contents from the stored parts
+-- returns the session with the contents, made of the parts that the code stores
 abbrev pub wire_from : ServerState → Contents → Contents → Contents → Contents → Wire
 wire_from session taken to_server got to_editor =
     record {
@@ -116,7 +121,7 @@ wire_from session taken to_server got to_editor =
       to_editor = bytes to_editor;
     }
 
--- returns client and server with their contents from the stored parts
+-- returns client and server with their contents, made of the parts that the code stores
 abbrev pub connection_from : Editor
     → Contents
     → ServerState
@@ -134,30 +139,31 @@ connection_from e to_server session to_editor applied made taken got =
 
 -- ---- what a world keeps
 
--- states that no count is above the number of steps
+-- states that the editor's numbers of openings and asks, and its versions, are at most n
 pub record Within (n : ℕ) (e : Editor) : Type 0 where
   pub openings : e.openings ≤ n
   pub asks : length e.requested ≤ n
   pub versions : (uri : List ℕ) (d : Open) → open_at e uri ≡ Some d → d.version ≤ n
 
--- states that some events lead from the beginning to this state
+-- holds if some events lead from the start to this state
 abbrev pub IsReached : ClientAndServer → Type 0
 IsReached w = (unit : Unit) × (events : List Event) × Course (start unit) events w
 
 -- ---- the steps of the server's event
 
--- returns the publication with a version that the first of these contents is
+-- Returns the first of these contents as a publication. None if it isn't one with a version.
 abbrev pub made_sent : OpenDocuments → List SentAsk → Contents → Option Made
 made_sent held requested [] = None
 made_sent held requested (content ∷ contents) =
     option_and_then (made_for held) (understood requested content.items)
 
--- states that a content, if there is one, waits after the others
+-- holds if a content, if there is one, was put at the end of the queue and was reported as sent
 abbrev pub IsSent : Contents → Option (Vec ℕ Global) → seen.Seen → Contents → Type 0
 IsSent old None seen new = (seen_of seen ≡ nothing) × (new ≡ old)
 IsSent old (Some content) seen new = (seen_of seen ≡ sent) × (new ≡ old ++ content ∷ [])
 
--- states that the first content that waited, if one did, is now the last of those that were got
+-- holds if the first waiting content, if there is one, was moved to the end of those that the
+-- editor has got
 abbrev pub MovesFirst : Contents → Contents → Contents → Contents → Type 0
 MovesFirst [] got waiting' got' = (waiting' ≡ []) × (got' ≡ got)
 MovesFirst (content ∷ rest) got waiting' got' =

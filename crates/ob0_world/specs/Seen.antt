@@ -1,4 +1,4 @@
--- Defines what a caller sees of each event.
+-- Defines the report on each event, which a caller sees.
 -- Rule: none; for contracts of `World::step`: what a caller is shown of an event.
 use Rattle.std.specs.Prelude.{◌≡◌, ℕ, ◌-◌, List, [], ◌∷◌, Bool, length, is_some, string_bytes, if◌then◌else◌}
 use Rattle.ob0_world.specs.declared.events.Seen as seen
@@ -7,28 +7,28 @@ use Rattle.ob0_world_rules.specs.ClientAndServer.{Editor, ToServer, ToEditor, pu
 use Rattle.ob0_world_rules.specs.Editing.{Act, open_document, change_document, close_document, ask_about, apply, discard, Done, done_by, kept_answer}
 use Rattle.ob0_world_rules.specs.Happens.{Event, does, serve, take_message, Happens}
 
--- the report on an event
+-- a report on an event
 pub data Seen : Type 0 where
   nothing : Seen
   sent : Seen
   -- the number of messages that the server sent
   served : ℕ → Seen
   published : List ℕ → Bool → Seen
-  -- the ask's number, and whether there were edits
+  -- the ask's number, and whether the answer has edits
   answered : ℕ → Bool → Seen
   applies : ℕ → Seen
   drops : ℕ → Seen
 
--- returns the first of two if a list has an element, and the second otherwise
+-- returns the first report if the list has an element, otherwise the second
 abbrev pub if_any : {A : Type 0} → List A → Seen → Seen → Seen
 if_any [] some none = none
 if_any (x ∷ xs) some none = some
 
--- reports whether a message was sent
+-- returns the report on an act that may send a message
 abbrev pub sent_of : Done → Seen
 sent_of done = if_any done.sent sent nothing
 
--- returns the report on an act
+-- returns the report on an act of the editor
 abbrev pub act_seen : Editor → Act → Seen
 act_seen e (open_document uri text) = sent_of (done_by e (open_document uri text))
 act_seen e (change_document uri how) = sent_of (done_by e (change_document uri how))
@@ -40,12 +40,13 @@ act_seen e (apply k) =
     else nothing
 act_seen e (discard k) = if is_some (kept_answer k e.answers) then drops k else nothing
 
--- reports the number of messages that the server has sent, if one waited for it
+-- returns the report on the server's event: the number of messages that it sent, if a message
+-- waited for it
 abbrev pub served_seen : List ToServer → List ToEditor → List ToEditor → Seen
 served_seen [] before after = nothing
 served_seen (message ∷ rest) before after = served (length after - length before)
 
--- reports the message that the editor has read, if one waited for it
+-- returns the report on the message that the editor has read, if one waited for it
 abbrev pub taken_seen : List ToEditor → Seen
 taken_seen [] = nothing
 taken_seen (publishes uri version empty ∷ rest) = published uri empty
@@ -57,11 +58,11 @@ event_seen old (does act) new = act_seen old.editor act
 event_seen old serve new = served_seen old.to_server old.to_editor new.to_editor
 event_seen old take_message new = taken_seen old.to_editor
 
--- states that the event happens, and that this is the report on it
+-- holds if the event happens and this is the report on it
 abbrev pub Shows : ClientAndServer → Event → Seen → ClientAndServer → Type 0
 Shows old event seen new = Happens old event new × (seen ≡ event_seen old event new)
 
--- returns the report that a value of the code is
+-- returns the report that a value of the code means
 abbrev pub seen_of : seen.Seen → Seen
 seen_of seen.TheVariants.Nothing = nothing
 seen_of seen.TheVariants.Sent = sent

@@ -1,6 +1,6 @@
--- States which versions answers mention, and what a client does that compares them.
--- A client has no numbers of openings. A version is enough, because an answer mentions the document that was asked about
--- with the version that it had then.
+-- Defines the versions that answers mention, and a client that compares them.
+-- A client doesn't number openings. A version is enough, because an answer mentions the document
+-- that was asked about with the version that it had then.
 -- Rule: none; laws of client and server, on LSP 3.17, OptionalVersionedTextDocumentIdentifier.
 use Rattle.std.specs.Prelude.{◌≡◌, ◌⊎◌, ⊤, ℕ, ℤ, pos, negsuc, List, [], ◌∷◌, ◌==◌, All, Bool, false, Option, Some, None, option_and_then, option_map, if◌then◌else◌, codes}
 use Rattle.serde_json.specs.Data.{Data}
@@ -19,7 +19,7 @@ use Rattle.ob0_world.specs.Worlds.{Connection, Begins, ConnectionCourse}
 
 -- ---- the versions in answers
 
--- returns the uri and the version in a document's identifier
+-- Returns the uri and the version in a document's identifier. None if one of them is missing.
 abbrev pub identified : Data → Option (List ℕ × ℤ)
 identified d =
     option_and_then
@@ -27,46 +27,48 @@ identified d =
     (option_and_then as_integer (option_and_then as_number (get (codes "version") d))))
     (text_member (codes "uri") d)
 
--- returns the uri and the version of the first document of a WorkspaceEdit
+-- Returns the uri and the version of the first document of a WorkspaceEdit. None if there is none.
 abbrev pub named_by_edit : Data → Option (List ℕ × ℤ)
 named_by_edit edit =
     option_and_then identified (option_and_then (get (codes "textDocument"))
     (option_and_then (at 0) (get (codes "documentChanges") edit)))
 
--- returns the WorkspaceEdit of the action with this title
+-- Returns the WorkspaceEdit of the action with this title. None if there is none.
 abbrev pub edit_of_action : List ℕ → Data → Option Data
 edit_of_action title value =
     option_and_then (get (codes "edit")) (option_and_then (titled_action title) (as_array value))
 
--- Returns the WorkspaceEdit in a result. The result of a rename is one, the result of an inlining is a
--- list of actions with one each. The result for a layout is a list of edits, and has none.
+-- Returns the WorkspaceEdit in a result. The result of a rename is a WorkspaceEdit. The result of
+-- an inlining is a list of actions with one each. The result of a formatting is a list of edits and
+-- has none.
 abbrev pub edit_in_result : Ask → Data → Option Data
 edit_in_result (rename position name) value = Some value
 edit_in_result (inline_here position) value = edit_of_action (codes "Inline here") value
 edit_in_result (inline_all position) value = edit_of_action (codes "Inline everywhere") value
 edit_in_result (format indent) value = None
 
--- returns the uri and the version that an answer mentions
+-- Returns the uri and the version that an answer mentions. None if it mentions none.
 abbrev pub named_in : Ask → Data → Option (List ℕ × ℤ)
 named_in ask answer =
     option_and_then named_by_edit
     (option_and_then (edit_in_result ask) (get (codes "result") answer))
 
--- states that an ask is for a layout
+-- holds if an ask is for a formatting
 abbrev pub IsLayout : Ask → Type 0
 IsLayout (rename position name) = ⊥
 IsLayout (inline_here position) = ⊥
 IsLayout (inline_all position) = ⊥
 IsLayout (format indent) = ⊤
 
--- States that an answer with edits mentions the document that was asked about, with the version that it
--- had then. An answer about a layout mentions none.
+-- Holds if an answer with edits mentions the document that was asked about, with the version that
+-- it had then. An answer to a formatting needn't mention it.
 abbrev pub NamesAsked : SentAsk → Data → Type 0
 NamesAsked a answer =
     (named_in a.ask answer ≡ Some (a.uri, pos a.version))
     ⊎ ((edits_for a.ask answer ≡ []) ⊎ IsLayout a.ask)
 
--- states that this content, if it is an answer, answers one of these requests and mentions its document
+-- holds if the content has no number as its id, or answers the request with that number as
+-- `NamesAsked` says
 abbrev pub NamesItsAsk : List SentAsk → List ℕ → Type 0
 NamesItsAsk requested content =
     (answer : Data) (k : ℕ)
@@ -74,8 +76,8 @@ NamesItsAsk requested content =
     → option_and_then request_number (get (codes "id") answer) ≡ Some k
     → (a : SentAsk) × (request_numbered requested k ≡ Some a) × NamesAsked a answer
 
--- States that each content that waits for the editor does so, whatever happened. (The editor gets only
--- contents that have waited.)
+-- States that `NamesItsAsk` holds of each content that waits for the editor, whatever happened.
+-- (The editor gets only contents that have waited.)
 abbrev pub VersionsAreNamed : Type 0
 VersionsAreNamed =
     (unit : Unit) (begin : Connection) (events : List Event) (now : Connection)
@@ -85,14 +87,14 @@ VersionsAreNamed =
 
 -- ---- a client that compares versions
 
--- states that a document has this version
+-- true if a document has this version
 abbrev pub has_version : ℤ → Open → Bool
 has_version (pos v) d = d.version == v
 has_version (negsuc v) d = false
 
--- Returns what a client makes of the edits of an answer if it compares the uri and the version in it: it
--- makes them in the document that is open under this uri, if that has this version and no two edits
--- share a character.
+-- Returns the result for a client that compares the uri and the version in an answer. It makes the
+-- edits in the document that is open under this uri. None if no such document has this version, or
+-- if two edits share a character.
 abbrev pub applies_by_version : Editor → List ℕ → ℤ → List Replacement → Option Done
 applies_by_version e uri version edits =
     option_and_then
@@ -102,12 +104,13 @@ applies_by_version e uri version edits =
     (if has_version version d then edited e.unit d.text edits else None))
     (open_at e uri)
 
--- states that the document hasn't been opened again since the request: it is closed, or in that opening
+-- holds if the document hasn't been opened again since the request: it is closed, or still in that
+-- opening
 abbrev pub IsNotReopened : Editor → SentAsk → Type 0
 IsNotReopened e a = (d : Open) → open_at e a.uri ≡ Some d → d.opening ≡ a.opening
 
--- States that a client that compares the version in an answer makes of the edits what the model's editor
--- makes, if the document wasn't opened again.
+-- States that a client that compares the version in an answer makes the same of its edits as the
+-- model's editor. The document mustn't have been opened again.
 abbrev pub VersionsSuffice : Type 0
 VersionsSuffice =
     (e : Editor) (k : ℕ) (a : SentAsk) (edits : List Replacement)

@@ -1,4 +1,4 @@
--- Defines client and server as the code stores them, and the result of a list of events.
+-- Defines client and server as the code stores them, and the results of a list of events.
 -- Rule: none; for contracts of `World`: a list of events, step by step.
 use Rattle.std.specs.Prelude.{◌≡◌, ◌<◌, ◌+◌, ◌++◌, ◌⊎◌, ⊤, ℕ, List, [], ◌∷◌, map, take, length, Bool, true, false, Option, Some}
 use Rattle.std.specs.Option.{option_to_list}
@@ -25,20 +25,22 @@ use Rattle.ob0_world.specs.declared.played.Played as played
 -- The session that is the server, and the contents of all messages between it and the editor.
 pub record Wire : Type 0 where
   pub session : ServerState
-  -- the contents that the editor has written: those that the session has taken, and those that wait
+  -- the contents that the editor has written: first those that the session has taken, then those
+  -- that wait
   pub taken : List (List ℕ)
   pub to_server : List (List ℕ)
-  -- the contents that the session has sent: those that the editor has got, and those that wait
+  -- the contents that the session has sent: first those that the editor has got, then those that
+  -- wait
   pub got : List (List ℕ)
   pub to_editor : List (List ℕ)
 
--- client and server as the model has them, and the contents between them
+-- a client and a server of the model, with the session and the contents between them
 pub record Connection : Type 0 where
   pub model : ClientAndServer
   pub wire : Wire
 
--- States that the editor has initialized a new session and got its answer, and nothing else has
--- happened.
+-- States that the editor has initialized a new session and got its answer, and that nothing else
+-- has happened.
 pub record Begins (unit : Unit) (w : Connection) : Type 0 where
   pub content : List ℕ
   pub replies : List (List ℕ)
@@ -54,7 +56,7 @@ pub record Begins (unit : Unit) (w : Connection) : Type 0 where
         to_editor = [];
       }
 
--- states that the session takes the first content that waits for it, if there is one, and its replies
+-- holds if the session takes the first content that waits for it, if there is one, and its replies
 -- wait for the editor
 abbrev pub TakesFirst : List (List ℕ) → Wire → Wire → Type 0
 TakesFirst [] old new = new ≡ old
@@ -68,26 +70,26 @@ TakesFirst (content ∷ rest) old new =
       to_editor = old.to_editor ++ sent;
     })
 
--- states that the editor gets the first content that waits for it, if there is one
+-- holds if the editor gets the first content that waits for it, if there is one
 abbrev pub GetsFirst : List (List ℕ) → Wire → Wire → Type 0
 GetsFirst [] old new = new ≡ old
 GetsFirst (content ∷ rest) old new =
     new ≡ record old { got = old.got ++ content ∷ []; to_editor = rest }
 
--- states that the editor writes at most one content, which waits for the session after the others
+-- holds if the editor writes at most one content, which waits for the session after the others
 abbrev pub WritesContent : Wire → Wire → Type 0
 WritesContent old new =
     (content : Option (List ℕ))
     × (new ≡ record old { to_server = old.to_server ++ option_to_list content })
 
--- States what an event moves. Only the server's event changes the session. No content that waits is
--- lost, changed or moved to another place.
+-- Holds if an event moves the contents so. Only the server's event changes the session. No waiting
+-- content is lost, changed or moved to another place in its queue.
 abbrev pub MovesWire : Event → Wire → Wire → Type 0
 MovesWire (does act) old new = WritesContent old new
 MovesWire serve old new = TakesFirst old.to_server old new
 MovesWire take_message old new = GetsFirst old.to_editor old new
 
--- states that there are as many contents as messages, and that the n-th content is the n-th message
+-- holds if there are as many contents as messages, and the n-th content is the n-th message
 abbrev pub AllSay : List SentAsk → List ToServer → List (List ℕ) → Type 0
 AllSay requested [] [] = ⊤
 AllSay requested (m ∷ messages) (content ∷ contents) =
@@ -95,21 +97,22 @@ AllSay requested (m ∷ messages) (content ∷ contents) =
 AllSay requested [] (content ∷ contents) = ⊥
 AllSay requested (m ∷ messages) [] = ⊥
 
--- States that the contents are the messages that wait, in both directions, and that the server's
--- documents are the session's.
+-- States that the waiting contents are the waiting messages, in both directions, and that the
+-- server's documents are the session's.
 pub record IsTied (w : Connection) : Type 0 where
   pub says : AllSay w.model.editor.requested w.model.to_server w.wire.to_server
   pub means : map (understood w.model.editor.requested) w.wire.to_editor
       ≡ map Some w.model.to_editor
   pub documents : w.model.held ≡ w.wire.session.held
 
--- States that one event happens in the model, and that the session and the contents do the same.
+-- States that one event happens in the model, and that the session and the contents move
+-- accordingly.
 pub record ConnectionStep (old : Connection) (event : Event) (new : Connection) : Type 0 where
   pub happens : Happens old.model event new.model
   pub moves : MovesWire event old.wire new.wire
   pub tied : IsTied new
 
--- states that these events, one after another, lead from the one to the other
+-- holds if these events, one after another, lead from `old` to `new`
 abbrev pub ConnectionCourse : Connection → List Event → Connection → Type 0
 ConnectionCourse old [] new = new ≡ old
 ConnectionCourse old (event ∷ events) new =
@@ -117,19 +120,19 @@ ConnectionCourse old (event ∷ events) new =
 
 -- ---- lists of events
 
--- states that these are the applied edits and the publications of the events
+-- holds if these are the applied edits and the publications in this state
 abbrev pub HasCome : ClientAndServer → played.Played → Type 0
 HasCome w p = (all_applied p ≡ w.applied) × (all_made p ≡ w.made)
 
--- states that these are the contents that were exchanged, and those that wait for the editor
+-- holds if these are the contents that were exchanged, and those that wait for the editor
 abbrev pub HasPassed : Wire → played.Played → Type 0
 HasPassed w p =
     (bytes p.taken.items ≡ w.taken)
     × (bytes p.got.items ≡ w.got)
     × (bytes p.unread.items ≡ w.to_editor)
 
--- States the headline of a list of events, with the edits and publications that the code returns. The
--- events were also those of a session, which from its beginning took these contents and sent these.
+-- States the headline of a list of events, with the edits and publications that the code returns.
+-- In these events a session, from its beginning, took and sent the contents that the code returns.
 pub record Plays (unit : Unit) (events : List event.Event) (p : played.Played) : Type 0 where
   pub headline : Headline unit (map event_of events) (all_applied p) (all_made p)
   pub begin : Connection
@@ -142,7 +145,7 @@ pub record Plays (unit : Unit) (events : List event.Event) (p : played.Played) :
   pub conversation : Conversation server.start (bytes p.taken.items)
       (bytes p.got.items ++ bytes p.unread.items) after
 
--- States that the code returns no event, no edit, no publication and no content.
+-- States that the code returns no step, no edit, no publication and no content.
 pub record PlaysNothing (unit : Unit) (fault : PlayFault) : Type 0 where
   pub none : fault.steps ≡ 0
   pub headline : Headline unit [] (all_applied fault.played) (all_made fault.played)
@@ -150,8 +153,8 @@ pub record PlaysNothing (unit : Unit) (fault : PlayFault) : Type 0 where
   pub got : fault.played.got.items ≡ []
   pub unread : fault.played.unread.items ≡ []
 
--- States that fewer than all events were played, as many as the fault counts, and that `Plays` holds of
--- these; or that the code returns nothing.
+-- Holds if fewer than all events were played, as many as the fault counts, and `Plays` holds of
+-- them. It also holds if the code returns nothing.
 abbrev pub PlaysBefore : Unit → List event.Event → PlayFault → Type 0
 PlaysBefore unit events fault =
     ((fault.steps < length events) × Plays unit (take fault.steps events) fault.played)
@@ -159,37 +162,37 @@ PlaysBefore unit events fault =
 
 -- ---- a world, event by event
 
--- client and server with the session, the steps that were made, and whether it has ended
+-- a connection, the number of steps that were made, and whether it has ended
 pub record World : Type 0 where
   pub connection : Connection
-  -- the number of steps
+  -- the number of steps that were made
   pub steps : ℕ
   -- true if a step has failed
   pub ended : Bool
 
--- states that nothing has happened in this world
+-- states that nothing has happened in this world yet
 pub record IsNew (unit : Unit) (w : World) : Type 0 where
   pub begins : Begins unit w.connection
   pub none : w.steps ≡ 0
   pub goes_on : w.ended ≡ false
 
--- states that the step is made and counted
+-- states that the event happens, is reported, and is counted as a step
 pub record MakesStep (old : World) (event : Event) (seen : Seen) (new : World) : Type 0 where
   pub made : ConnectionStep old.connection event new.connection
   pub shown : seen ≡ event_seen old.connection.model event new.connection.model
   pub counted : new.steps ≡ old.steps + 1
   pub goes_on : new.ended ≡ false
 
--- States that a world that hasn't ended makes the step. An ended world makes none.
+-- Holds if a world that hasn't ended makes the step. An ended world makes none.
 abbrev pub StepsFrom : Bool → World → Event → Seen → World → Type 0
 StepsFrom false old event seen new = MakesStep old event seen new
 StepsFrom true old event seen new = ⊥
 
--- states that this step is made
+-- holds if the world makes this step
 abbrev pub WorldSteps : World → Event → Seen → World → Type 0
 WorldSteps old event seen new = StepsFrom old.ended old event seen new
 
--- states that the results of the earlier events, and the contents that were exchanged, are kept
+-- states that the results and the exchanged contents are those before the step
 pub record SameHistory (old new : Connection) : Type 0 where
   pub applied : new.model.applied ≡ old.model.applied
   pub made : new.model.made ≡ old.model.made
@@ -197,8 +200,9 @@ pub record SameHistory (old new : Connection) : Type 0 where
   pub got : new.wire.got ≡ old.wire.got
   pub unread : new.wire.to_editor ≡ old.wire.to_editor
 
--- States that a step that returns `Memory` isn't counted and ends the world, which keeps its results and
--- the exchanged contents. An ended world returns `Ended` at each step, and is unchanged.
+-- Holds if a step fails in one of two ways. `Memory` isn't counted and ends the world, which keeps
+-- its results and the exchanged contents. `Ended` is returned at each step of an ended world, which
+-- doesn't change.
 abbrev pub FailsFrom : Bool → World → WorldFault → World → Type 0
 FailsFrom false old Memory new =
     SameHistory old.connection new.connection × (new.steps ≡ old.steps) × (new.ended ≡ true)
@@ -206,6 +210,6 @@ FailsFrom false old Ended new = ⊥
 FailsFrom true old Memory new = ⊥
 FailsFrom true old Ended new = new ≡ old
 
--- states that this step fails so
+-- holds if this step of the world fails with this fault
 abbrev pub WorldFails : World → WorldFault → World → Type 0
 WorldFails old fault new = FailsFrom old.ended old fault new

@@ -1,4 +1,4 @@
-//! Client and server, and the messages between them.
+//! Connects an editor and a session by two queues, and makes each event happen.
 ghost use Rattle.std.specs.Prelude.{◌≡◌, ◌<◌, IfOk, OnErr, OnOk, map, option_map, option_and_then, string_bytes};
 ghost use Rattle.std.specs.Str.{chars};
 ghost use Rattle.std.specs.Vec.{vec_capacity, vec_len};
@@ -26,7 +26,7 @@ use std::alloc::{AllocError, Global};
 use std::collections::VecDeque;
 use std::marker::Model;
 
-/// An editor and a session, and the contents of the messages that wait for each.
+/// An editor and a session, the contents that wait for each, the contents that have passed, and the results so far.
 #[derive(Drop)]
 pub struct Connection<T: TextStore> {
     alloc: Global,
@@ -36,9 +36,9 @@ pub struct Connection<T: TextStore> {
     to_editor: VecDeque<Vec<u8>>,
     applied: Vec<Applied>,
     made: Vec<Made>,
-    /// What the session has taken.
+    /// The contents that the session has taken, in order.
     taken: Vec<Vec<u8>>,
-    /// What the editor has got.
+    /// The contents that the editor has got, in order.
     got: Vec<Vec<u8>>,
 }
 
@@ -61,7 +61,8 @@ impl<T: TextStore> Model for Connection<T> {
 }
 
 impl<T: TextStore> Connection<T> {
-    /// An editor without documents and a session that it has initialized; both count positions in this unit.
+    /// Returns an editor without documents and a session that the editor has initialized. Both count positions in this
+    /// unit.
     pub fn new(alloc: Global, unit: Unit) -> Result<Connection<T>, AllocError>
         ensures { IfOk result (Begins unit) }
     {
@@ -83,15 +84,16 @@ impl<T: TextStore> Connection<T> {
         })
     }
 
-    /// The contents say the messages of the model: a law, called for its contract alone.
+    /// Does nothing. Its contract is a law: the contents that wait are the messages of the model. It is called only for
+    /// that.
     pub(crate) fn contents_say_messages(&self)
         ensures { IsTied self.now }
     {
-        // For the proof: what the contract of this call says.
+        // The proof needs the contract of this call.
         let _waiting = self.to_server.len();
     }
 
-    /// What has come of the events.
+    /// Returns the applied edits, the publications and the contents of all events so far.
     pub fn into_played(self) -> Played
         ensures come { HasCome self.model result }
         ensures passed { HasPassed self.wire result }
@@ -105,7 +107,8 @@ impl<T: TextStore> Connection<T> {
         }
     }
 
-    /// Makes an event happen.
+    /// Makes an event happen and reports it. If an allocation fails, the results and the exchanged contents are
+    /// unchanged.
     pub fn make(&mut self, event: &Event) -> Result<Seen, AllocError>
         requires { AreFew self.old.model.editor }
         ensures ok { IfOk result
@@ -169,8 +172,8 @@ impl<T: TextStore> Connection<T> {
         send(&mut self.to_server, content)
     }
 
-    /// The session takes one message, and its replies wait for the editor. What it publishes with a version is made for
-    /// the text that the document has then.
+    /// Lets the session take the first content that waits, and queues its replies for the editor. A publication with a
+    /// version is recorded with the text that its document has then.
     fn serve(&mut self) -> Result<Seen, AllocError>
         ensures ok { IfOk result
             (λ seen. Shows self.old.model events.serve (seen_of seen) self.new.model) }
@@ -260,7 +263,7 @@ impl<T: TextStore> Connection<T> {
     }
 }
 
-/// Moves the first content that waits, if one does, to the end of those that were got.
+/// Moves the first content of a queue, if there is one, to the end of `got`, which must have room for it.
 fn move_first(waiting: &mut VecDeque<Vec<u8>>, got: &mut Vec<Vec<u8>>)
     requires { vec_len got.old < vec_capacity got.old }
     ensures { MovesFirst waiting.old.items got.old.items waiting.new.items got.new.items }
@@ -270,7 +273,7 @@ fn move_first(waiting: &mut VecDeque<Vec<u8>>, got: &mut Vec<Vec<u8>>)
     }
 }
 
-/// Puts a content, if there is one, after those that wait.
+/// Queues a content if there is one, and reports whether it was sent. If the allocation fails, the queue is unchanged.
 fn send(queue: &mut VecDeque<Vec<u8>>, content: Option<Vec<u8>>) -> Result<Seen, AllocError>
     ensures ok { IfOk result (λ seen. IsSent queue.old.items content seen queue.new.items) }
     ensures err { OnErr result (queue.new.items ≡ queue.old.items) }
@@ -284,7 +287,7 @@ fn send(queue: &mut VecDeque<Vec<u8>>, content: Option<Vec<u8>>) -> Result<Seen,
     }
 }
 
-/// Steps the session with a content, and returns its replies.
+/// Gives the session a content, and returns its replies. If an allocation fails, the session has failed for good.
 fn answer<T: TextStore>(
     session: &mut Session<T>,
     content: &[u8],
@@ -302,7 +305,7 @@ fn answer<T: TextStore>(
     }
 }
 
-/// The publication with a version that the first of these contents is.
+/// Returns the publication with a version that the first of these contents is, if it is one.
 fn first_made<T: TextStore>(
     alloc: Global,
     editor: &Editor,
@@ -347,7 +350,7 @@ fn made_of_content<T: TextStore>(
     }
 }
 
-/// The publication, with the present text of its document.
+/// Returns the publication with the present text of its document. None if that document isn't open or is out of step.
 fn made_with<T: TextStore>(
     alloc: Global,
     documents: &Documents<T>,

@@ -1,40 +1,40 @@
-//! What may happen to client and server, and what is seen of it.
+//! The events of a client and a server, and the report on each event.
 
 use ob0_text::Change;
 use ob0_world_editor::Ask;
 
-/// One event.
+/// One event of the client or the server.
 #[derive(Debug, Drop)]
 pub enum Event {
-    /// The editor opens a document, with version 1.
+    /// The editor opens a document, with version 1. If it is open already, nothing happens.
     OpenDoc { uri: String, text: String },
-    /// The editor makes these changes in order, each of the result of the one before.
+    /// The editor makes these changes in order, each in the result of the one before.
     ChangeDoc { uri: String, changes: Vec<Change> },
     CloseDoc { uri: String },
-    /// The editor sends this ask about a document. Asks that are sent are numbered from 1.
+    /// The editor sends this ask about a document. Asks that are sent get numbers from 1.
     Ask { uri: String, ask: Ask },
-    /// The server takes one message, and sends what it answers.
+    /// The server takes one message and sends its replies.
     Serve,
     /// The editor takes one message.
     Take,
     /// The editor applies the answer to ask `k`, if it has one.
     Apply { k: u64 },
-    /// The editor drops the answer to ask `k`, if it has one.
+    /// The editor discards the answer to ask `k`, if it has one.
     Discard { k: u64 },
 }
 
-/// What is seen of an event.
+/// The report on an event.
 #[derive(Debug, Drop)]
 pub enum Seen {
     /// Nothing happened.
     Nothing,
     /// The editor sent a message.
     Sent,
-    /// The server took a message, and sent this many.
+    /// The server took a message and sent this many messages.
     Served(usize),
-    /// The editor took diagnostics.
+    /// The editor took a list of diagnostics. `empty` is true if the list has none.
     Published { uri: String, empty: bool },
-    /// The editor took an answer, and keeps it if it has edits.
+    /// The editor took the answer to ask `k`, which it keeps if the answer has edits.
     Answered { k: u64, edits: bool },
     Applied { k: u64 },
     Dropped { k: u64 },

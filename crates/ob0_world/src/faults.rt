@@ -1,9 +1,9 @@
-//! What stops client and server.
+//! The faults of a world: an allocation fails.
 
 use crate::played::Played;
 use thiserror::Error;
 
-/// Why a step wasn't made.
+/// The reason why a step wasn't made.
 #[derive(Clone, Copy, Debug, Drop, PartialEq, Eq, Error)]
 pub enum WorldFault {
     #[error("out of memory")]
@@ -12,7 +12,8 @@ pub enum WorldFault {
     Ended,
 }
 
-/// An allocation failed. `steps` events were made before that, and `played` is what came of them.
+/// The fault of `play` and `play_in`: an allocation failed. `steps` events were made before that, and `played` has
+/// their results.
 #[derive(Debug, Drop, Error)]
 #[error("out of memory")]
 pub struct PlayFault {

@@ -1,5 +1,5 @@
-//! An editor and the server, with a queue of messages in each direction. Lists of events are played from the beginning;
-//! in whatever order they come, each edit that the editor applies keeps the run of the module.
+//! An editor and the server, with a queue of messages in each direction. A list of events is played from the start. In
+//! whatever order the events come, each edit that the editor applies keeps the run of the module.
 #![tactic(auto)]
 
 mod connection;

@@ -1,9 +1,9 @@
-//! What has come of the events.
+//! The results of a list of events.
 
 use ob0_world_editor::Applied;
 use std::collections::VecDeque;
 
-/// A publication with a version, the text that it was made for, and whether no diagnostic was in it.
+/// A publication with a version, the text that it was made for, and whether its list of diagnostics is empty.
 #[derive(Debug, Drop)]
 pub struct Made {
     pub uri: String,
@@ -12,15 +12,15 @@ pub struct Made {
     pub empty: bool,
 }
 
-/// All edits that were applied and all publications with a version, in order; and the contents of the messages.
+/// All applied edits, all publications with a version, and the contents of all messages, each in order.
 #[derive(Debug, Drop)]
 pub struct Played {
     pub applied: Vec<Applied>,
     pub made: Vec<Made>,
-    /// What the session took, the editor's `initialize` first.
+    /// The contents that the session took; the first is the editor's `initialize`.
     pub taken: Vec<Vec<u8>>,
-    /// What the editor got of that which the session sent, the answer to `initialize` first.
+    /// The contents that the editor got from the session; the first is the answer to `initialize`.
     pub got: Vec<Vec<u8>>,
-    /// What the session sent after that.
+    /// The contents that the session sent and the editor hasn't got yet.
     pub unread: VecDeque<Vec<u8>>,
 }

@@ -1,12 +1,15 @@
-//! Client and server, and whole lists of events.
+//! Plays lists of events with an editor and a session.
 //!
-//! The model of a `Connection` has the client and server of the rules (`ClientAndServer`: documents and messages), and
-//! the `Wire`: the session, and all contents, those that were taken and those that wait, in each direction. So
-//! `MovesWire` speaks of the session's own step and of what each event does to the contents, and `IsTied` joins the two
-//! views (`Connection::contents_say_messages` is called for its contract alone). The promise of a step is by cases of
-//! the world before it (`WorldSteps`, `WorldFails`). `Plays` has the headline and, beside it, the connection's course
-//! (`ConnectionCourse`) from a begun session on (`Begins`), with the contents that passed returned by the code: so a
-//! body without a session would have to return the contents of a conversation all the same.
+//! A `Connection` has two parts. Its model is a client and a server by the rules (`ClientAndServer`): documents and
+//! messages. Its `Wire` is the session and all contents, those taken and those that wait, in each direction.
+//!
+//! `MovesWire` states what each event does to the session and the contents, and `IsTied` joins the two parts.
+//! (`Connection::contents_say_messages` is called only for its contract.) The contract of a step is by cases of the
+//! world before it (`WorldSteps`, `WorldFails`).
+//!
+//! `Plays` states the headline, and the connection's course (`ConnectionCourse`) from a session that has begun
+//! (`Begins`). The code returns the contents that passed. So even a body without a session would have to return the
+//! contents of a conversation.
 ghost use Rattle.std.specs.Prelude.{◌≡◌, ◌<◌, ◌-◌, ◌^◌, [], length, IfOk, OnOk, IfErr};
 ghost use Rattle.ob0_text.specs.declared.position_types.Unit.TheVariants.{Utf16};
 ghost use Rattle.ob0_world_rules.specs.Headline.{Holds};
@@ -25,7 +28,7 @@ use std::alloc::{AllocError, Global};
 use std::collections::VecDeque;
 use std::marker::Model;
 
-/// An editor, the server and a queue in each direction.
+/// An editor and a session with a queue in each direction, and the number of steps made.
 #[derive(Drop)]
 pub struct World<T: TextStore> {
     connection: Connection<T>,
@@ -53,8 +56,8 @@ impl<T: TextStore> Model for World<T> {
 }
 
 impl<T: TextStore> World<T> {
-    /// No document is open and no message waits. The editor has initialized the session, as a client that takes edits
-    /// with the versions of their documents and code actions as literals. Both count positions in UTF-16 units.
+    /// Returns a world in which no document is open and no message waits. The editor has initialized the session, as a
+    /// client that accepts edits with document versions and literal code actions. Both count positions in UTF-16 units.
     pub fn new(alloc: Global) -> Result<World<T>, WorldFault>
         ensures start { IfOk result (IsNew Utf16) }
         ensures err { IfErr result (λ fault. fault ≡ Memory) }
@@ -62,7 +65,7 @@ impl<T: TextStore> World<T> {
         World::new_in(alloc, Unit::Utf16)
     }
 
-    /// A new world, with positions in this unit: no document is open and no message waits.
+    /// Returns a world in which no document is open and no message waits. Both sides count positions in this unit.
     pub fn new_in(alloc: Global, unit: Unit) -> Result<World<T>, WorldFault>
         ensures start { IfOk result (IsNew unit) }
         ensures err { IfErr result (λ fault. fault ≡ Memory) }
@@ -77,15 +80,15 @@ impl<T: TextStore> World<T> {
         }
     }
 
-    /// How many steps returned Ok.
+    /// Returns the number of steps that returned Ok.
     pub fn steps(&self) -> u64
         ensures { result ≡ self.now.steps }
     {
         self.steps
     }
 
-    /// Makes one event happen. The server is a session: its event is one `Session::step` on the first content that
-    /// waits.
+    /// Makes one event happen and reports it. The server's event is one `Session::step` on the first content that
+    /// waits. If an allocation fails, the world ends: each later step returns `Ended`.
     pub fn step(&mut self, event: &Event) -> Result<Seen, WorldFault>
         requires few { self.old.steps < 2 ^ 63 - 1 }
         ensures ok { IfOk result
@@ -110,8 +113,7 @@ impl<T: TextStore> World<T> {
         }
     }
 
-    /// The edits that were applied and the publications that were made, up to the last step that was made; and the
-    /// contents that passed.
+    /// Returns the applied edits, the publications and the contents that passed, up to the last step that returned Ok.
     pub fn into_played(self) -> Played
         ensures come { HasCome self.connection.model result }
         ensures passed { HasPassed self.connection.wire result }
@@ -119,7 +121,7 @@ impl<T: TextStore> World<T> {
         self.connection.into_played()
     }
 
-    /// Plays a list of events from the beginning, with positions in UTF-16 units.
+    /// Plays a list of events from the start, with positions in UTF-16 units.
     pub fn play(alloc: Global, events: &[Event]) -> Result<Played, PlayFault>
         requires few { length events.now < 2 ^ 63 - 1 }
         ensures ok { IfOk result (λ played. Plays Utf16 events.now played) }
@@ -128,14 +130,15 @@ impl<T: TextStore> World<T> {
         World::<T>::play_in(alloc, Unit::Utf16, events)
     }
 
-    /// Plays a list of events from the beginning, with positions in this unit.
+    /// Plays a list of events from the start, with positions in this unit.
     ///
     /// In every interleaving of an editor and the server, each edit that the editor applies to a well-typed document
     /// leaves a well-typed module with the same run: the same output and end for every input and every bound on calls
     /// and loop turns; and an open document's latest diagnostics are empty exactly when the text they were made for is a
     /// well-typed module.
     ///
-    /// The editor is the model's. The law `every_exchange_holds` says the same of every editor that keeps ob0's rules.
+    /// The editor is the model's. The law `every_exchange_holds` states the same for every editor that keeps ob0's
+    /// rules.
     pub fn play_in(alloc: Global, unit: Unit, events: &[Event]) -> Result<Played, PlayFault>
         requires few { length events.now < 2 ^ 63 - 1 }
         ensures ok { IfOk result (λ played. Plays unit events.now played) }

@@ -1,5 +1,5 @@
--- Whatever fails, what `serve` has written begins what is written for the same bytes and more of them where neither an
--- allocation nor the writer fails.
+-- Proves that whatever fails, the bytes that `serve` has written are a prefix. They begin the output for the same
+-- input, or for more of it, of a call in which neither an allocation nor the writer fails.
 use Rattle.std.proofs.Common.{◌≡◌, ◌∙◌, ℕ, List, [], ◌++◌, Result, Ok, Err, sym, ap, subst, inl, inr, append_assoc, append-nil}
 use Rattle.std.specs.List.{flat_map}
 use Rattle.std.proofs.lemmas.Grind.{flat_map-append}
@@ -15,7 +15,7 @@ use Rattle.ob0_world_determined.proofs.Conversations.{Contents}
 use Rattle.ob0_world_determined.proofs.Fronts.{fed_front, front_more}
 use Rattle.ob0_world_determined.proofs.Streams.{Cut, cut, begins_other, longer, Ending, at_exit, with_rest, EndsIn, ending_of, all_written, OneFeed}
 
--- the first of the contents are answered, and the frames of the answers begin with what was written
+-- states that the first of the contents are answered, and that the written bytes begin the frames of the answers
 record Part (taken put : List ℕ) : Type 0 where
   pub answered : Contents
   pub sent : Contents
@@ -58,7 +58,7 @@ module _ (one : OneConversation) (feeds : OneFeed) (taken : List ℕ) where
     frames = sym some.frames ∙ sym (append-nil put);
   }
 
-  -- the rest of the conversation is answered by more messages
+  -- If a conversation goes beyond the answered contents, its replies begin with those that were sent.
   further : (put : List ℕ) (p : Part taken put) (contents mid sent : Contents) (after : ServerState) → contents ≡ p.answered ++ mid → Conversation start contents sent after → (later : Contents) × (sent ≡ p.sent ++ later)
   further put p contents mid sent after is h =
       let parts : Cut start p.answered mid sent after = cut start p.answered mid sent after (subst (λ cs. Conversation start cs sent after) is h) in

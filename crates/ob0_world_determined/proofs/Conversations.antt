@@ -1,4 +1,4 @@
--- A conversation is determined where each reply is.
+-- Proves that a conversation is determined if each reply is.
 use Rattle.std.proofs.Common.{◌≡◌, ◌∙◌, ℕ, Option, Some, None, List, [], ◌∷◌, ◌++◌, refl, sym, subst}
 use Rattle.serde_json.specs.Data.{Data}
 use Rattle.ob0_rpc.specs.Messages.{ReadsContent, meaning}
@@ -35,7 +35,7 @@ module _ (says : OneReply) where
   pub one_answer : OneAnswer
   one_answer before content sent more after other h k = in_phase_one before.phase before content sent more after other h k
 
--- ---- contents in turn
+-- ---- several contents
 
 pub one_conversation : OneAnswer → OneConversation
 one_conversation one before [] sent more after other h k = (h.0 ∙ sym k.0, h.1 ∙ sym k.1)

@@ -1,17 +1,18 @@
--- Each stream has a list of contents: of a message's content, and of what comes after the message.
+-- Proves that each stream has a list of contents: the content of its first message, then the contents after that
+-- message.
 use Rattle.std.proofs.Common.{◌≡◌, ◌∙◌, ◌<◌, ◌+◌, ℕ, zero, suc, List, [], ◌∷◌, ◌++◌, length, refl, ap, arith}
 use Rattle.std.proofs.lemmas.List.{length-append}
 use Rattle.ob0_frame.specs.Frames.{BeginsWith, Frames}
 use Rattle.ob0_frame.proofs.Heads.{end_takes_room}
 use Rattle.ob0_world_determined.specs.Determined.{AListFits}
 
--- a head has at least a byte
+-- A head has at least one byte.
 head_is_some : (bytes head content more : List ℕ) → BeginsWith bytes head content more → 0 < length head
 head_is_some bytes head content more b =
     let ends = b.announces.whole.ends in
     omega (arith, end_takes_room ends.end, ap length ends.empty ∙ length-append ends.lines _)
 
--- what comes after a message is shorter
+-- The bytes after a message are fewer than the whole stream.
 shorter : (bytes head content more : List ℕ) → BeginsWith bytes head content more → length more < length bytes
 shorter bytes head content more b =
     let some : 0 < length head = head_is_some bytes head content more b in

@@ -1,8 +1,9 @@
--- The first bytes of a stream have contents of their own, with which those of all begin.
+-- Proves that the first bytes of a stream have a list of contents, and that the list of the whole stream begins with
+-- it.
 -- An input may be cut into other pieces, so that more of it is read after an `exit` or a bad head. The contents of the
--- first bytes begin those of all, after a bad head too (`fed_front`). Where memory ran out, what was answered begins
--- each list of contents of the bytes read; that there is one follows from the list of all (`framed_first`, which
--- decides whether what is left of the first bytes is bad).
+-- first bytes begin the contents of the whole, even after a bad head (`fed_front`).
+-- If memory ran out, the answered contents begin each list of contents of the bytes read. There is such a list because
+-- the whole stream has one (`framed_first`, which decides whether the rest of the first bytes is bad).
 use Rattle.std.proofs.Common.{◌≡◌, ◌∙◌, ◌⊎◌, ◌<◌, ◌≤◌, ℕ, arith, List, [], ◌∷◌, ◌++◌, length, take, drop, refl, sym, ap, subst, inl, inr}
 use Rattle.std.proofs.lemmas.List.{append_assoc, append_cancel_left, length-append, take_all, take_at, take-append-drop, take-append-le, take-take}
 use Rattle.std.proofs.lemmas.Bool.{cases_lt}
@@ -20,13 +21,13 @@ same_front : (h x left more : List ℕ) (n : ℕ) → left ++ more ≡ h ++ x �
 same_front h x left more n same short within =
     sym (take-append-le n left more short) ∙ (ap (take n) same ∙ take-append-le n h x within)
 
--- what is no shorter begins with the other
+-- If two byte strings are prefixes of the same bytes, the longer one begins with the other.
 longer_front : (h x left more : List ℕ) → left ++ more ≡ h ++ x → length h ≤ length left → left ≡ h ++ drop (length h) left
 longer_front h x left more same fits =
     let front : take (length h) left ≡ h = sym (take-append-le (length h) left more fits) ∙ (ap (take (length h)) same ∙ take_at h x (length h) refl) in
     sym (take-append-drop (length h) left) ∙ ap (λ (xs : List ℕ). xs ++ drop (length h) left) front
 
--- the front of a head has no empty line
+-- A proper prefix of a head has no empty line.
 no_line_in_front : (h x left more : List ℕ) → IsHead h → left ++ more ≡ h ++ x → length left < length h → HasNoEmptyLine left
 no_line_in_front h x left more whole same shorter n ends =
     elim (cases_lt n (length left)) [
@@ -38,7 +39,7 @@ no_line_in_front h x left more whole same shorter n ends =
 
 -- ---- what of a bad front is bad
 
--- without an empty line it is where it is as long as a head may be
+-- Bytes without an empty line are bad if they are as long as a head may be. So the property is decidable.
 by_length : (left : List ℕ) → HasNoEmptyLine left → IsBad left ⊎ ¬ (IsBad left)
 by_length left none =
     elim (cases_lt (length left) 4096) [
@@ -123,17 +124,17 @@ framed_from first f = elim f.bad [
   | inr not ↦ record { contents = f.contents; rest = Open f.left; feeds = (f.frames, not) }
 ]
 
--- where all have a list of contents, the first bytes have one
+-- If the whole stream has a list of contents, its first bytes have one.
 pub framed_first : (first second : List ℕ) (e : Contents) (end : Rest) → Feeds (Open []) (first ++ second) e end → Framed first
 framed_first first second e (Open q) all = framed_from first (front_frames first second e q all.0 (inr all.1))
 framed_first first second e Broken all = framed_from first (front_frames first second e all.0 all.1 (inl all.2))
 
--- what is fed first makes a prefix of the contents of all, after a bad head too
+-- The contents of the first bytes are a prefix of the contents of the whole, even after a bad head.
 pub fed_front : (start r end : Rest) (first second : List ℕ) (c e : Contents) → Feeds start first c r → Feeds start (first ++ second) e end → (d : Contents) × (e ≡ c ++ d)
 fed_front start (Open r) end first second c e one all = let parts = fed_split start end first second c e r one all in (parts.0, parts.1)
 fed_front start Broken end first second c e one all = ([], (fed_once start end Broken (first ++ second) e (c ++ []) all (fed_in_turn start Broken Broken first second c [] one refl)).0)
 
--- what begins each list of contents of the first bytes begins those of all
+-- A prefix of each list of contents of the first bytes is a prefix of the contents of the whole.
 pub front_more : (taken more : List ℕ) (answered contents : Contents) (end : Rest) → ((contents : Contents) (rest : Rest) → Feeds (Open []) taken contents rest → (others : Contents) × (contents ≡ answered ++ others)) → Feeds (Open []) (taken ++ more) contents end → (others : Contents) × (contents ≡ answered ++ others)
 front_more taken more answered contents end front fed =
     let f = framed_first taken more contents end fed in

@@ -1,4 +1,4 @@
--- A question about what is at a place of a text has one answer.
+-- Proves that a question about the name at a place of a text has at most one answer.
 use Rattle.std.proofs.Common.{◌≡◌, ◌∙◌, ℕ, ◌+◌, ◌-◌, nat_lt, Bool, true, false, Option, Some, None, List, map, drop, get_or, if◌then◌else◌, refl, sym, ap, inl, inr}
 use Rattle.std.specs.Prelude.{option_and_then, option_map}
 use Rattle.std.specs.List.{filter}
@@ -35,14 +35,14 @@ use Rattle.ob0_world_rules.proofs.OneFields.{one_list_of_fields}
 use Rattle.ob0_world_rules.proofs.OneModule.{Same, same_module, one_name, identifiers_of}
 use Rattle.ob0_world_determined.specs.Determined.{OneTable}
 
--- the hover of a name, by the tokens and the tree over them
+-- returns the hover of a name, by the tokens and the tree over them
 abbrev hover_in_tree : Scanned → Tree ℕ module_text → Named → Option HoverText
 hover_in_tree s t n =
     option_map (λ text. record { span = span_at s n.token; text = text })
     (if nat_lt n.ordinal 7 then Some (predeclared_text (text_at s n.token))
     else option_and_then (object_hover (text_at s n.token) (map (text_at s) (drop (n.ordinal + 1 - 7) (declaring_only (identifiers role.Declaring t))))) (declared_object (named s t) n.ordinal))
 
--- the hover of an identifier of a field of a type
+-- returns the hover of a field's identifier, whose type is this one
 abbrev hover_of_shape : Scanned → ℕ → Shape → HoverText
 hover_of_shape s token of = record { span = span_at s token; text = field_text (text_at s token) (type_text of) }
 
@@ -62,7 +62,7 @@ module _ (r q : Resolution) (e : Same r.module_read q.module_read) (fields : fie
   same_hover : hover_at_place r offset ≡ hover_at_place q offset
   same_hover = λ i. option_and_then (λ (x : Identified). one_hover x.token x.means i) (same_meant i)
 
-  -- ---- where it is declared
+  -- ---- the place of its declaration
 
   one_declaration : (token : ℕ) (x : Meant) → declared_meant r.module_read token x ≡ declared_meant q.module_read token x
   one_declaration token (Name ordinal) = λ i. option_map (span_at (e.source i)) (token_declaring (declaring_only (identifiers role.Declaring (e.tree i))) ordinal)
@@ -71,7 +71,7 @@ module _ (r q : Resolution) (e : Same r.module_read q.module_read) (fields : fie
   same_definition : definition_at r offset ≡ definition_at q offset
   same_definition = λ i. option_and_then (λ (x : Identified). one_declaration x.token x.means i) (same_meant i)
 
-  -- ---- where it is named
+  -- ---- the places of its uses
 
   field_referred : (x : FieldName) (include : Bool) → field_references r x include ≡ field_references q x include
   field_referred x true = λ i. tokens_among (e.source i) x.owner (text_at (e.source i) x.token) (fields i)
@@ -89,7 +89,7 @@ module _ (r q : Resolution) (e : Same r.module_read q.module_read) (fields : fie
   same_references : (include : Bool) → references_at r offset include ≡ references_at q offset include
   same_references include = named_in_one include (meant_at r offset) ∙ ap (named_by q include) same_meant
 
-  -- ---- whether it can be renamed
+  -- ---- the range to rename
 
   one_renamable : (token : ℕ) (x : Meant) → renamable_meant r.module_read token x ≡ renamable_meant q.module_read token x
   one_renamable token (Name ordinal) = λ i. if nat_lt ordinal 7 then None else Some (span_at (e.source i) token)
@@ -121,7 +121,7 @@ module _ (tables : OneTable) (unit : Unit) (text : List ℕ) (at : At) where
           is ∙ ap (λ xs. array (items_of (map (location_at unit at.uri text) xs))) same ∙ sym is_too
       go renaming_asked h k = h ∙ ap (λ o. value_or_null (option_map (range_at unit text) o)) (same_renamable r q e fields table (offset_in unit text at)) ∙ sym k
 
-  -- a module's text is no other
+  -- A text that has a module is the text of a well-typed module.
   is_module : (r : Resolution) → IsModuleIn (utf8 text) r → IsWellTypedModule (utf8 text)
   is_module r h =
       record { tree = _; text_of = record { scanned = r.module_read.source; scan = h.scan; module_of = h.well_typed.resolved.parsed.module_of }; well_typed = h.well_typed.well_typed }

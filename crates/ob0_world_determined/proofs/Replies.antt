@@ -1,4 +1,4 @@
--- A reply is sent in one way.
+-- Proves that a reply determines the contents that are sent for it.
 use Rattle.std.proofs.Common.{◌≡◌, ◌∙◌, ℕ, ◌++◌, true, false, Option, Some, None, List, [], ◌∷◌, map, refl, sym, ap, inl, inr, if◌then◌else◌}
 use Rattle.std.specs.Prelude.{ℤ, Vec, codes}
 use Rattle.std.specs.declared.alloc.Global.{Global}
@@ -52,7 +52,7 @@ values_by_parts xs ys same = sym (map-map value_of_parts parts xs) ∙ (ap (map 
 values_by_said : (xs ys : List Edit) → map edit_text xs ≡ map edit_text ys → map edit_value xs ≡ map edit_value ys
 values_by_said xs ys same = sym (map-map value_of_said edit_text xs) ∙ (ap (map value_of_said) same ∙ map-map value_of_said edit_text ys)
 
--- the edits in the form that a client takes, by their values
+-- returns edits, given as JSON values, as a WorkspaceEdit in the form that the client accepts
 abbrev workspace_with : Client → List ℕ → ℤ → List Data → Data
 workspace_with client uri version vs =
     if client.takes_document_changes

@@ -1,4 +1,4 @@
--- A text has one list of diagnostics.
+-- Proves that a text has at most one list of diagnostics.
 use Rattle.std.proofs.Common.{◌≡◌, ◌∙◌, ℕ, suc, ◌+◌, None, Bool, true, false, cond, List, [], ◌∷◌, ◌++◌, map, take, drop, filter, replicate, refl, sym, ap, subst, inl, inr, arith}
 use Rattle.std.specs.Prelude.{slice_index_or}
 use Rattle.std.specs.List.{sum_by}
@@ -50,7 +50,7 @@ OneScanReport = (text : List ℕ) (faults others : List Fault) → AreReportedOf
 scannable : (text : List ℕ) (s : Scanned) → IsScanOf text s → IsScannable text
 scannable text s scan = subst IsScannable scan.of (scan.scan.short, (scan.scan.lexemes, scan.scan.lexed))
 
--- no tree is a module's where none begins so
+-- No tree is a module's if no module begins with these tokens.
 none : (s : Scanned) (i : ℕ) (tree : Tree (List ℕ) module_text) → NoneBegins s i → ModuleOf s tree → ⊥
 none s i tree h is =
     let all : List (Terminal (List ℕ)) = text_lexemes s ++ (EndOfText ∷ []) in
@@ -171,7 +171,7 @@ copies q (x ∷ xs) = go (ties is_below q x) refl (copies q xs)
         let count : sum_by (counts q) (x ∷ xs) ≡ sum_by (counts q) xs = sum_by-cons (counts q) x xs ∙ ap (λ b. cond b 1 0 + sum_by (counts q) xs) t ∙ none_more (sum_by (counts q) xs) in
         ap (λ b. cond b (x ∷ filter (ties is_below q) xs) (filter (ties is_below q) xs)) t ∙ more ∙ sym (ap (λ n. replicate n q) count)
 
--- a list of faults is sorted in one way
+-- A list of faults has at most one sorted permutation.
 sorted_one : (faults xs ys : List Fault) → IsPermutation faults xs → IsPermutation faults ys → IsSorted fault_cmp xs → IsSorted fault_cmp ys → xs ≡ ys
 sorted_one faults xs ys p q sorted sorted_too =
     one_sorted is_below weak xs ys (rises_sorted is_below weak xs sorted) (rises_sorted is_below weak ys sorted_too)

@@ -1,4 +1,4 @@
--- What is reported of a module depends on its table of ordinals only by the ordinals at its tokens.
+-- Proves that the faults of a module depend on its table of ordinals only by the ordinals at the module's tokens.
 use Rattle.std.proofs.Common.{◌≡◌, ℕ, suc, ◌+◌, Bool, true, false, cond, Option, Some, None, List, [], ◌∷◌, ◌++◌, map, length, refl, ap, subst}
 use Rattle.std.specs.Prelude.{option_and_then, slice_index_or, slice_set}
 use Rattle.ob0_scan.specs.declared.fault.Code.TheVariants as code
@@ -18,7 +18,7 @@ use Rattle.ob0_types_check.specs.StatementFaults.{reported_sequence}
 use Rattle.ob0_types_check.specs.TypeFaults.{length_of, reported_constant, type_named}
 use Rattle.ob0_types_check.specs.WrittenTypeFaults.{Gathered, array_made, array_size, beside, gathered_after, nothing_gathered, ordinal_here, record_made, record_size, record_word, reported_fields, reported_groups, reported_type, with_name, with_field_names, word_before}
 
--- ---- the same but for tables that have the same ordinals
+-- ---- states that differ only in tables with the same ordinals
 
 abbrev pub Agree : List (Option ℕ) → List (Option ℕ) → Type 0
 Agree a b = (token : ℕ) → ordinal_in a token ≡ ordinal_in b token
@@ -42,7 +42,7 @@ record HeadingLike (g h : KnownHeading) : Type 0 where
   pub formals : g.formals ≡ h.formals
   pub following : Like g.following h.following
 
--- what is known is alike, and the faults are the same
+-- states that the known facts correspond, and that the faults are the same
 pub record Both {A : Type 0} (R : A → A → Type 0) (x y : Reported A) : Type 0 where
   pub known : R x.known y.known
   pub faults : x.faults ≡ y.faults
@@ -50,12 +50,12 @@ pub record Both {A : Type 0} (R : A → A → Type 0) (x y : Reported A) : Type 
 right_both : {A : Type 0} (R : A → A → Type 0) (x y : A) → R x y → Both R (right x) (right y)
 right_both R x y h = record { known = h; faults = refl }
 
--- one after the other
+-- Two reports after equal faults correspond if the reports do.
 after : {B : Type 0} {S : B → B → Type 0} {before following : List Fault} {u v : Reported B} → before ≡ following → Both S u v
     → Both S (record { known = u.known; faults = before ++ u.faults }) (record { known = v.known; faults = following ++ v.faults })
 after first next = record { known = next.known; faults = λ i. first i ++ next.faults i }
 
--- ---- what is known
+-- ---- known facts
 
 same_facts : (p q : SoFar) (only : Bool) → Like p q → facts_at p only ≡ facts_at q only
 same_facts p q only like = λ i. record {

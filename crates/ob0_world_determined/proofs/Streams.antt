@@ -1,5 +1,6 @@
--- What `serve` writes and returns is determined by its input, however that is cut.
--- Where one call ended at an `exit`, no other went on: after its end a server sends nothing and stays as it is.
+-- Proves that the input of `serve` determines what it writes and returns, however the input is cut.
+-- If one call ended at an `exit`, no other call can go beyond it: after its end a server sends nothing and doesn't
+-- change.
 use Rattle.std.proofs.Common.{◌≡◌, ◌≢◌, ◌≤◌, ◌∙◌, ℕ, ◌⊎◌, List, [], ◌∷◌, ◌++◌, length, Result, Ok, Err, refl, sym, ap, subst, inl, inr, append_assoc, append-nil}
 use Rattle.std.specs.Prelude.{⊤, All}
 use Rattle.std.specs.List.{flat_map}
@@ -41,7 +42,7 @@ cut before (content ∷ contents) more sent after h =
       is = h.all ∙ ap (λ xs. h.first ++ xs) next.is ∙ sym (append_assoc h.first next.first next.later);
     }
 
--- after its end a server sends nothing
+-- After its end a server sends nothing and doesn't change.
 ended_answer : (status : ℕ) (before : ServerState) (content : List ℕ) (sent : Contents) (after : ServerState) → before.phase ≡ Ended status → Answers before content sent after → (sent ≡ []) × (after ≡ before)
 ended_answer status before content sent after over h = subst (λ phase. AnswersInState phase before content sent after) over h
 
@@ -69,12 +70,12 @@ begins_other (x ∷ xs) ys (z ∷ zs) ws e =
       | inr (mid, is) ↦ inr (mid, λ i. first_of e i ∷ is i)
     ]
 
--- ---- what was read is answered up to an `exit`, or wholly
+-- ---- the contents read are answered up to an `exit`, or all of them
 
 abbrev pub OneFeed : Type 0
 OneFeed = (from r q : Rest) (piece : List ℕ) (c d : Contents) → Feeds from piece c r → Feeds from piece d q → (c ≡ d) × (r ≡ q)
 
--- the conversation ended with a status, or left a rest
+-- the ending of a conversation: a status at an `exit`, or the rest of the bytes
 pub data Ending : Type 0 where
   at_exit : ℕ → Ending
   with_rest : Rest → Ending
@@ -87,7 +88,7 @@ same_status : (s t : ℕ) → Ended s ≡ Ended t → s ≡ t
 same_status s t e = cc
 
 module _ (one : OneConversation) (feeds : OneFeed) (taken : List ℕ) where
-  -- a conversation that ended, and one that goes on over more contents, or as many
+  -- A conversation that ended has the same replies and state as one over more contents.
   pub longer : (status : ℕ) (contents more sent other : Contents) (after end : ServerState) → after.phase ≡ Ended status → Conversation start contents sent after → Conversation start (contents ++ more) other end → (sent ≡ other) × (end ≡ after)
   longer status contents more sent other after end over h k =
       let parts : Cut start contents more other end = cut start contents more other end k in
@@ -116,7 +117,7 @@ module _ (one : OneConversation) (feeds : OneFeed) (taken : List ℕ) where
   ended_goes_on : (status : ℕ) (s : ServerState) → s.phase ≡ Ended status → IsGoingOn s.phase → ⊥
   ended_goes_on status s over going = let no : IsGoingOn (Ended status) = subst IsGoingOn over going in cc
 
-  -- where the one came to its end, the other would have too
+  -- If one call ended at an `exit`, another over the same bytes can't have served all of them.
   never_both : (status : ℕ) (q : Rest) (put other : List ℕ) → EndsWith status taken put → AllServed taken q other → ⊥
   never_both status q put other (h, h_ended) k =
       let fed : h.served.answered ++ h.waiting ≡ k.served.answered =
@@ -132,7 +133,7 @@ module _ (one : OneConversation) (feeds : OneFeed) (taken : List ℕ) where
 
 -- ---- by the result
 
--- where neither an allocation nor the writer failed
+-- If neither an allocation nor the writer failed, the bytes have an ending.
 pub ending_of : (result : Result ℕ ServeFault) (taken put : List ℕ) → IsWritten result → MayServe result taken put → (e : Ending) × EndsIn e taken put
 ending_of (Ok status) taken put written (r, w, (inl ends, none)) = (at_exit status, ends)
 ending_of (Ok status) taken put written (r, w, (inr (all, at_end, is), none)) = (with_rest (Open []), all)
@@ -143,7 +144,7 @@ ending_of (Err TooManyReads) taken put written (r, w, ((left, all, long, often),
 ending_of (Err Write) taken put written served = absurd (written.1 refl)
 ending_of (Err Memory) taken put written served = absurd (written.0 refl)
 
--- the ending gives the result back
+-- returns the result of `serve` for an ending
 abbrev result_of : Ending → Result ℕ ServeFault
 result_of (at_exit status) = Ok status
 result_of (with_rest (Open [])) = Ok 1
@@ -166,7 +167,7 @@ led_to (Err Memory) taken put of served = absurd of
 
 -- ---- more of the input
 
--- an ending that what comes after it can't change
+-- holds if more bytes can't change an ending
 abbrev pub IsClosed : Ending → Type 0
 IsClosed (at_exit status) = ⊤
 IsClosed (with_rest Broken) = ⊤
@@ -194,7 +195,7 @@ further (with_rest Broken) taken more put closed f h =
     }
 further (with_rest (Open left)) taken more put closed f h = absurd closed
 
--- what was decided by the bytes
+-- A result that the bytes decide has an ending that more bytes can't change.
 pub decided : (result : Result ℕ ServeFault) (taken put : List ℕ) → IsDecided result taken put → MayServe result taken put → (e : Ending) × EndsIn e taken put × IsClosed e × (result_of e ≡ result)
 decided (Ok status) taken put is served = (at_exit status, is, tt, refl)
 decided (Err BadHead) taken put is (r, w, (all, none)) = (with_rest Broken, all, tt, refl)
@@ -207,7 +208,7 @@ decided (Err Memory) taken put is served = absurd is
 nothing_more : (taken more : List ℕ) → more ≡ [] → taken ++ more ≡ taken
 nothing_more taken more none = ap (λ xs. taken ++ xs) none ∙ append-nil taken
 
--- where nothing more can be written, all was
+-- If no more bytes can be written, both calls have written the same.
 pub all_written : OneConversation → OneFeed → (taken more put all : List ℕ) (result end : Result ℕ ServeFault) → IsWritten result → IsWritten end → MayServe result taken put → MayServe end (taken ++ more) all → IsDecided result taken put ⊎ (more ≡ []) → put ≡ all
 all_written one feeds taken more put all result end written written_too h k (inl is) =
     let e = decided result taken put is h in
@@ -241,9 +242,9 @@ module _ (one : OneConversation) (feeds : OneFeed) (taken sent : Contents) (afte
       let same : taken ≡ s.answered = (feeds (Open []) (Open []) rest (flat_map frame taken) taken (s.answered ++ []) fed s.feeds).0 ∙ append-nil s.answered in
       s.frames ∙ ap (flat_map frame) (one start s.answered s.sent sent h.after after s.conversation (subst (λ cs. Conversation start cs sent after) same talk)).0
 
--- and of a conversation with which a longer input begins
+-- a conversation with which a longer input begins
 module _ (one : OneConversation) (feeds : OneFeed) (taken sent : Contents) (after : ServerState) (talk : Conversation start taken sent after) (fed : Feeds (Open []) (flat_map frame taken) taken (Open [])) (more : List ℕ) where
-  -- more contents are answered than these
+  -- The answers to more contents begin with the answers to these.
   goes_on : (mid answered said : Contents) (end : ServerState) → answered ≡ taken ++ mid → Conversation start answered said end → (later : List ℕ) × (flat_map frame said ≡ flat_map frame sent ++ later)
   goes_on mid answered said end is h =
       let parts : Cut start taken mid said end = cut start taken mid said end (subst (λ cs. Conversation start cs said end) is h) in

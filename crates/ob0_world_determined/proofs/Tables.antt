@@ -1,6 +1,6 @@
--- Two tables of ordinals of one module agree at each token.
--- A table may go on past a module's tokens, so two tables of one module need not be equal as lists; they have the same
--- ordinal at each token: at an identifier by `IsBinding`, elsewhere none, by `NamesAlone`.
+-- Proves that two tables of ordinals of one module agree at each token.
+-- A table may be longer than a module's list of tokens, so two tables of one module need not be equal as lists. They
+-- have the same ordinal at each token: at an identifier by `IsBinding`, and none elsewhere by `NamesAlone`.
 use Rattle.std.proofs.Common.{◌≡◌, ◌∙◌, ◌==◌, ◌||◌, ℕ, Bool, true, false, Option, List, [], ◌∷◌, map, refl, sym, ap, subst, eqb-true}
 use Rattle.std.specs.List.{list_any}
 use Rattle.ob0_scan.specs.Scanned.{Scanned}
@@ -22,7 +22,7 @@ tail_of e = cc
 abbrev is_among : List ℕ → ℕ → Bool
 is_among tokens token = list_any (λ i. i == token) tokens
 
--- at one of some tokens
+-- Two tables agree at each of some tokens if they agree at all of these.
 among : (s : Scanned) (a b : List (Option ℕ)) (tokens : List ℕ) (token : ℕ) → is_among tokens token ≡ true → map (bound_at s a) tokens ≡ map (bound_at s b) tokens → ordinal_in a token ≡ ordinal_in b token
 among s a b [] token is same = absurd (cc)
 among s a b (x ∷ xs) token is same = go (x == token) refl (λ later. among s a b xs token later (tail_of same))

@@ -1,5 +1,5 @@
 -- States that the server's input determines its output: the diagnostics of a text, the replies to a
--- message, the written bytes.
+-- message, and the written bytes.
 -- Rule: none; laws of the session.
 use Rattle.std.specs.Prelude.{◌≡◌, ◌≢◌, ◌≤◌, ◌++◌, ◌⊎◌, ℕ, List, [], length, All, Bool, Result, Ok, Err, ⊤}
 use Rattle.std.specs.List.{flat_map}
@@ -15,18 +15,18 @@ use Rattle.ob0_session.specs.declared.serving.ServeFault.TheVariants.{BadHead, T
 
 -- ---- diagnostics
 
--- states that two readings of a module have the same tokens, and the same tree over them
+-- holds if two readings of a module have the same tokens, and the same tree over them
 abbrev pub AreOneModule : Parsed → Parsed → Type 0
 AreOneModule m n = (m.source ≡ n.source) × (tree_of m ≡ tree_of n)
 
--- states that each token of a module has one ordinal, or none
+-- states that two tables of ordinals of one module have the same ordinal, or none, at each token
 abbrev pub OneTable : Type 0
 OneTable =
     (r q : Resolution) → IsResolution r → IsResolution q
     → AreOneModule r.module_read q.module_read
     → (token : ℕ) → ordinal_in r.ordinals token ≡ ordinal_in q.ordinals token
 
--- states that a text has one list of diagnostics
+-- states that two lists of diagnostics of one text are equal
 abbrev pub OneDiagnosis : Type 0
 OneDiagnosis =
     (text : List ℕ) (found other : List Complaint)
@@ -34,20 +34,21 @@ OneDiagnosis =
 
 -- ---- replies
 
--- states that a reply is sent in one way
+-- states that a reply determines the contents that are sent for it
 abbrev pub OneReply : Type 0
 OneReply =
     (reply : Reply) (sent other : List (List ℕ))
     → SaysReply reply sent → SaysReply reply other → sent ≡ other
 
--- states that a content has one list of replies in a state, and leads to one state
+-- states that a content and the state before it determine the replies and the state after it
 abbrev pub OneAnswer : Type 0
 OneAnswer =
     (before : ServerState) (content : List ℕ) (sent other : List (List ℕ)) (after end : ServerState)
     → Answers before content sent after → Answers before content other end
     → (sent ≡ other) × (after ≡ end)
 
--- states the same of several contents, one after another
+-- states that the state before a conversation and its contents determine the replies and the state
+-- after it
 abbrev pub OneConversation : Type 0
 OneConversation =
     (before : ServerState) (contents sent other : List (List ℕ)) (after end : ServerState)
@@ -56,18 +57,18 @@ OneConversation =
 
 -- ---- bytes
 
--- states that `serve` may return this after it has read and written these bytes, whatever its devices
--- did
+-- holds if `serve` may return this result after it has read and written these bytes, whatever its
+-- devices did
 abbrev pub MayServe : Result ℕ ServeFault → List ℕ → List ℕ → Type 0
 MayServe result taken put =
     (reader_failed : Bool) × (writer_failed : Bool)
     × Serves result taken put ⊤ ⊤ reader_failed writer_failed ⊤
 
--- states that a result is neither `Memory` nor `Write`
+-- holds if a result is neither `Memory` nor `Write`
 abbrev pub IsWritten : Result ℕ ServeFault → Type 0
 IsWritten result = (result ≢ Err Memory) × (result ≢ Err Write)
 
--- states that the bytes read led to a result: an `exit`, the end of the input, or a bad head
+-- holds if the bytes read led to the result: an `exit`, the end of the input, or a bad head
 abbrev pub IsOfBytes : Result ℕ ServeFault → Type 0
 IsOfBytes (Ok status) = ⊤
 IsOfBytes (Err BadHead) = ⊤
@@ -77,7 +78,7 @@ IsOfBytes (Err TooManyReads) = ⊥
 IsOfBytes (Err Write) = ⊥
 IsOfBytes (Err Memory) = ⊥
 
--- states that an `exit` came, or a bad head, so later bytes make no difference
+-- holds if an `exit` or a bad head came, after which later bytes make no difference
 abbrev pub IsDecided : Result ℕ ServeFault → List ℕ → List ℕ → Type 0
 IsDecided (Ok status) taken put = EndsWith status taken put
 IsDecided (Err BadHead) taken put = ⊤
@@ -87,9 +88,9 @@ IsDecided (Err TooManyReads) taken put = ⊥
 IsDecided (Err Write) taken put = ⊥
 IsDecided (Err Memory) taken put = ⊥
 
--- States that the output for the first bytes of an input begins the output for more of it, unless the
--- call for more returns `Memory` or `Write`. The two are equal for the same bytes, and after an `exit`
--- or a bad head, unless the first call returns either.
+-- States that the output for the first bytes of an input is a prefix of the output for more of it.
+-- The call for more must return neither `Memory` nor `Write`. If the first call returns neither of
+-- them, the outputs are equal for the same input, and after an `exit` or a bad head.
 abbrev pub OneOutput : Type 0
 OneOutput =
     (taken more put all : List ℕ) (result end : Result ℕ ServeFault) → IsWritten end
@@ -97,8 +98,9 @@ OneOutput =
     → (unwritten : List ℕ) × (all ≡ put ++ unwritten)
     × (IsWritten result → IsDecided result taken put ⊎ (more ≡ []) → unwritten ≡ [])
 
--- States that the result is the same for the same bytes, and after an `exit` or a bad head, unless one
--- of the two is `Read`, `TooManyReads`, `Write` or `Memory`.
+-- States that the result is the same for the same bytes. It is also the same for more of the input,
+-- if an `exit` or a bad head came. The results `Read`, `TooManyReads`, `Write` and `Memory` are
+-- excepted.
 abbrev pub OneResult : Type 0
 OneResult =
     (taken more put all : List ℕ) (result end : Result ℕ ServeFault)
@@ -114,8 +116,9 @@ AListFits =
 
 -- ---- a conversation, as bytes
 
--- States that `serve`, fed with the frames of the contents that a session took in a conversation, writes
--- the frames of the contents that the session sent, unless `serve` returns `Memory` or `Write`.
+-- States that `serve` writes the frames of a conversation, unless it returns `Memory` or `Write`.
+-- Fed with the frames of the contents that a session took, it writes the frames of the contents
+-- that the session sent. Each content taken has at most `max_content` bytes.
 abbrev pub ConversationIsServed : Type 0
 ConversationIsServed =
     (taken sent : List (List ℕ)) (after : ServerState)
@@ -125,7 +128,9 @@ ConversationIsServed =
     → MayServe result (flat_map frame taken) put
     → put ≡ flat_map frame sent
 
--- States that for a longer input that begins with these frames `serve` writes the same first.
+-- States that `serve`, fed with a longer input that begins with these frames, writes the frames of
+-- the conversation first. This holds unless it returns `Memory` or `Write`. Each content taken has
+-- at most `max_content` bytes.
 abbrev pub ConversationIsServedFirst : Type 0
 ConversationIsServedFirst =
     (taken sent : List (List ℕ)) (after : ServerState)

@@ -13,23 +13,23 @@ use Rattle.ob0_session_server.specs.Answers.{ServerState, Conversation}
 use Rattle.ob0_world.specs.Exchanges.{Exchange, BeginsExchange, ExchangeLeads, IsShutdown, IsExit, EndsSession, HoldsOfExchange}
 use Rattle.ob0_world_determined.specs.Determined.{MayServe, IsWritten}
 
--- Relates the exchange of a session and an editor that keeps ob0's rules to the bytes that `serve`
+-- Relates an exchange of a session and an editor that keeps ob0's rules to the bytes that `serve`
 -- writes.
 pub record ServedExchange (begin now : Exchange) : Type 0 where
   pub holds : HoldsOfExchange begin now
-  -- for the frames of the contents that the session took, `serve` writes the frames of the contents
-  -- that it sent, unless it returns `Memory` or `Write`
+  -- Fed with the frames of the taken contents, `serve` writes the frames of the sent contents.
+  -- Excepted are the results `Memory` and `Write`, and contents longer than `max_content`.
   pub written : All (λ content. length content ≤ max_content) now.wire.taken
       → (put : List ℕ) (result : Result ℕ ServeFault) → IsWritten result
       → MayServe result (flat_map frame now.wire.taken) put
       → put ≡ flat_map frame (now.wire.got ++ now.wire.to_editor)
-  -- for a longer input it writes the same frames first
+  -- for a longer input `serve` writes the same frames first
   pub written_first : All (λ content. length content ≤ max_content) now.wire.taken
       → (more put : List ℕ) (result : Result ℕ ServeFault) → IsWritten result
       → MayServe result (flat_map frame now.wire.taken ++ more) put
       → (later : List ℕ) × (put ≡ flat_map frame (now.wire.got ++ now.wire.to_editor) ++ later)
-  -- when the session then takes `shutdown` and `exit`, it writes one frame more: the answer to
-  -- `shutdown`
+  -- If the session then takes `shutdown` and `exit`, `serve` also writes the frame of the answer to
+  -- `shutdown`.
   pub ended : (id : Data) (shutdown exit : List ℕ) → IsShutdown id shutdown → IsExit exit
       → (sent : List (List ℕ)) (end : ServerState)
       → Conversation now.wire.session (shutdown ∷ exit ∷ []) sent end
@@ -38,13 +38,13 @@ pub record ServedExchange (begin now : Exchange) : Type 0 where
       → MayServe result (flat_map frame (now.wire.taken ++ shutdown ∷ exit ∷ [])) put
       → EndsSession id now.wire.session sent end
       × (put ≡ flat_map frame ((now.wire.got ++ now.wire.to_editor) ++ sent))
-  -- if it returns `Memory`, it has answered the first contents that it read; if these are the contents
-  -- that the session took, it has written the same
+  -- If `serve` returns `Memory`, it has answered the first contents that it read. If these are the
+  -- contents that the session took, it has written the same frames.
   pub in_part : (taken put : List ℕ) (part : PrefixServed taken put)
       → part.answered ≡ now.wire.taken
       → put ≡ flat_map frame (now.wire.got ++ now.wire.to_editor)
 
--- states that it holds with every editor that keeps ob0's rules, and every session
+-- states that `ServedExchange` holds with every editor that keeps ob0's rules, and every session
 abbrev pub EveryExchangeIsServed : Type 0
 EveryExchangeIsServed =
     (unit : Unit) (begin now : Exchange) (turns : List Turn)

@@ -1,4 +1,4 @@
-//! States laws of the definitions that the contracts cite.
+//! States the laws of the definitions that contracts cite.
 ghost use Rattle.ob0_world_determined.specs.Determined.{AListFits, ConversationIsServed, ConversationIsServedFirst, OneAnswer, OneConversation, OneDiagnosis, OneOutput, OneReply, OneResult, OneTable};
 ghost use Rattle.ob0_world_determined.specs.Exchanged.{EveryExchangeIsServed};
 
@@ -7,12 +7,12 @@ use ob0_frame::laws::{feeding_is_determined, nothing_is_fed, written_is_read};
 use ob0_scan::laws::{one_report, one_scan};
 use ob0_world::laws::every_exchange_holds;
 
-/// States that a module has one table of ordinals.
+/// Proves that two tables of ordinals of one module have the same ordinal, or none, at each token.
 pub fn one_table()
     ensures { OneTable }
 {}
 
-/// States that a text determines its diagnostics.
+/// Proves that a text determines its diagnostics.
 pub fn one_diagnosis()
     ensures { OneDiagnosis }
 {
@@ -22,7 +22,7 @@ pub fn one_diagnosis()
     one_refusal();
 }
 
-/// States that a reply is sent in one way.
+/// Proves that a reply determines the contents that are sent for it.
 pub fn one_reply()
     ensures { OneReply }
 {
@@ -30,23 +30,23 @@ pub fn one_reply()
     one_diagnosis();
 }
 
-/// States that a content and the state before it determine the replies and the state after it.
+/// Proves that a content and the state before it determine the replies and the state after it.
 pub fn one_answer()
     ensures { OneAnswer }
 {
     one_reply();
 }
 
-/// States that the contents of a conversation determine the replies and the state after it.
+/// Proves that the state before a conversation and its contents determine the replies and the state after it.
 pub fn one_conversation()
     ensures { OneConversation }
 {
     one_answer();
 }
 
-/// States that the output for the first bytes of an input begins the output for more of it, unless the call for more
-/// returns `Memory` or `Write`. The two are equal for the same bytes, and after an `exit` or a bad head, unless the first
-/// call returns either. So it makes no difference how an input is cut into pieces.
+/// Proves that the output for the first bytes of an input is a prefix of the output for more of it. The call for more
+/// must return neither `Memory` nor `Write`. If the first call returns neither of them, the outputs are equal for the
+/// same input, and after an `exit` or a bad head. So it makes no difference how an input is cut into pieces.
 pub fn one_output()
     ensures { OneOutput }
 {
@@ -54,8 +54,8 @@ pub fn one_output()
     feeding_is_determined();
 }
 
-/// States that `serve` returns the same for the same bytes, and for more of the input after an `exit` or a bad head,
-/// unless one of the two results is `Read`, `TooManyReads`, `Write` or `Memory`.
+/// Proves that `serve` returns the same result for the same bytes. It also does for more of the input, if an `exit` or
+/// a bad head came. The results `Read`, `TooManyReads`, `Write` and `Memory` are excepted.
 pub fn one_result()
     ensures { OneResult }
 {
@@ -63,13 +63,15 @@ pub fn one_result()
     feeding_is_determined();
 }
 
-/// States that each stream has a list of contents, so a law of all lists that fit it is a law of one.
+/// Proves that a stream can't be without a list of contents. So a law about all its lists of contents is about at least
+/// one.
 pub fn a_list_fits()
     ensures { AListFits }
 {}
 
-/// States that `serve`, fed with the frames of the contents that a session took in a conversation, writes the frames of
-/// the contents that the session sent, unless it returns `Memory` or `Write`.
+/// Proves that `serve` writes the frames of a conversation, unless it returns `Memory` or `Write`. Fed with the frames
+/// of the contents that a session took, it writes the frames of the contents that the session sent. Each content taken
+/// has at most `max_content` bytes.
 pub fn a_conversation_is_served()
     ensures { ConversationIsServed }
 {
@@ -79,7 +81,9 @@ pub fn a_conversation_is_served()
     written_is_read();
 }
 
-/// States that `serve`, fed with a longer input that begins with these frames, first writes the same frames.
+/// Proves that `serve`, fed with a longer input, writes the frames of a conversation first. The input begins with the
+/// frames of the contents that the session took, each of at most `max_content` bytes. This holds unless `serve` returns
+/// `Memory` or `Write`.
 pub fn a_conversation_is_served_first()
     ensures { ConversationIsServedFirst }
 {
@@ -89,9 +93,10 @@ pub fn a_conversation_is_served_first()
     written_is_read();
 }
 
-/// States the headline for `serve` and every editor that keeps ob0's rules: `HoldsOfExchange` holds, and for the frames
-/// of the contents that the session took `serve` writes the frames of the contents that it sent, unless it returns
-/// `Memory` or `Write`. At `Memory` it has written them for the contents that it answered.
+/// Proves the headline for `serve` and every editor that keeps ob0's rules. The guarantees of `HoldsOfExchange` hold.
+/// Fed with the frames of the contents that the session took, `serve` writes the frames of the contents that it sent.
+/// This holds unless `serve` returns `Memory` or `Write`, and if no content taken has more than `max_content` bytes. If
+/// it returns `Memory`, it has written the frames of the replies to the contents that it answered.
 pub fn every_exchange_is_served()
     ensures { EveryExchangeIsServed }
 {

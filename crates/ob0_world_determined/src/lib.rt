@@ -1,11 +1,13 @@
-//! What the server sends is determined by what it has read: laws of the diagnostics of a text, of the replies to a
-//! message, and of the bytes that are written for the bytes that are read.
+//! Proves that the server's input determines its output: the diagnostics of a text, the replies to a message, and the
+//! bytes written for the bytes read.
 //!
-//! Each says of a relation of the session that it allows one value. Most of these are equations already; what isn't is in
-//! the proofs: two scans of a text and two trees over its tokens are the same; the faults are a sorted permutation
-//! (`sorted_one`); edits are determined up to the allocation of their texts, so by `parts` (Replies); tables of ordinals
-//! at each token (Tables, SameTables); a stream has one list of contents, however it is cut (Streams, Fronts). A new
-//! production needs a line in SameTables; a new method or question a line in Replies or NamesShown.
+//! Each law states that a relation of the session allows at most one value. Most of these relations are equations
+//! already. The proofs show the rest. Two scans of a text are equal, and so are two trees over its tokens. The faults
+//! are a sorted permutation (`sorted_one`). Edits are determined up to the allocation of their texts, so they are
+//! compared by `parts` (Replies). Tables of ordinals are compared at each token (Tables, SameTables). A stream has at
+//! most one list of contents, however it is cut (Streams, Fronts).
+//!
+//! A new production needs a line in SameTables. A new method or question needs a line in Replies or NamesShown.
 #![tactic(auto)]
 
 pub mod laws;

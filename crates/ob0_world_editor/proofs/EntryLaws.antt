@@ -1,4 +1,4 @@
--- What a change of the stored documents is in the model.
+-- Proves that changing the stored documents changes the model's documents in the same way.
 use Rattle.std.proofs.Common.{◌≡◌, ℕ, Bool, true, false, cond, List, [], ◌∷◌, map, refl, sym, ap, ◌∙◌}
 use Rattle.std.specs.Prelude.{Option, Some, None, Result, Ok, Err, OnErr, String, string_bytes}
 use Rattle.std.specs.Option.{option_map}
@@ -20,7 +20,7 @@ same_key : (bs q : List ℕ) → eq_by_cmp (slice_cmp nat_cmp) q bs ≡ bytes_eq
 same_key bs q = (eq_by_cmp_equiv nat_list_cmp_total).symm q bs ∙ is_eq-slice_cmp bs q
 
 module _ {A : Type 0} where
-  -- a uri is looked up in the model as in the stored map
+  -- Looking up a uri in the model finds the document that is stored for it.
   find-entries : (q : List ℕ) (es : List (String A × stored.Open)) → map_of.find (slice_cmp nat_cmp) q (map (λ e. (string_bytes e.0, open_document e.1)) es) ≡ option_map open_document (lookup (is_at (λ k. slice_cmp nat_cmp q (string_bytes k))) es)
   find-entries q [] = refl
   find-entries q (e ∷ es) =
@@ -38,7 +38,7 @@ module _ {A : Type 0} where
     picked_after true w o = refl
     picked_after false w o = refl
 
-    -- the model after an entry was set or taken out, at each uri
+    -- After an entry was set or removed, the model has that entry at its uri and is unchanged at all other uris.
     get_after : (w : Option stored.Open) → tree.UpdatesBy string_cmp (λ k. slice_cmp nat_cmp bs (string_bytes k)) m n w → (q : List ℕ)
         → map_of.get (editor_documents n.entries) q ≡ cond (eq_by_cmp (slice_cmp nat_cmp) q bs) (option_map open_document w) (map_of.get (editor_documents m.entries) q)
     get_after w u q =
@@ -56,7 +56,7 @@ module _ {A : Type 0} where
         map_of.same_map nat_list_cmp_total (map_of.slice_cmp-IsAntisymmetric map_of.nat_cmp-IsAntisymmetric) _ _
         (λ q. get_after None u q ∙ sym (map_of.get-remove nat_list_cmp_total _ bs q))
 
-  -- where an entry can't be put in, the model stays
+  -- If an insertion fails, the model's documents are unchanged.
   pub documents-unchanged : {T E : Type 0} (m n : BTreeMap (String A) stored.Open) (r : Result T E) (old : EditorDocuments) → tree.IsUnchanged m n → editor_documents m.entries ≡ old → OnErr r (editor_documents n.entries ≡ old)
   documents-unchanged m n (Ok x) old same is = tt
   documents-unchanged m n (Err e) old same is = ap (λ es. editor_documents es) same ∙ is

@@ -1,4 +1,4 @@
--- What a content says, once its JSON value is known.
+-- Proves which message a content is, once its JSON value is known.
 use Rattle.std.proofs.Common.{◌≡◌, ◌∙◌, ℕ, Bool, true, false, List, refl, Option, Some, None, option_and_then, option_map, cond, ap}
 use Rattle.std.specs.Prelude.{Result, Ok, Err, IfOk}
 use Rattle.std.specs.Str.{is_utf8}
@@ -11,11 +11,11 @@ use Rattle.ob0_world_rules.specs.ClientAndServer.{SentAsk, ToServer, notifies, r
 use Rattle.ob0_world_editor.specs.Heard.{request_number, heard, message_read, notification_read, sent_as, SaysToServer}
 use Rattle.ob0_world_editor.specs.Understood.{understood, value_read, read_so}
 
--- what a content says that is UTF-8, once its JSON value is known
+-- A content in UTF-8 with a known JSON value is read as that value.
 pub said : {M : Type 0} (f : Data → Option M) (content : List ℕ) (d : Data) → ReadsContent content (Some d) → cond (is_utf8 content) (option_and_then f (read content)) None ≡ f d
 said f content d reads = ap (λ b. cond b (option_and_then f (read content)) None) (is_utf8-from_IsUtf8 content reads.0) ∙ ap (option_and_then f) reads.1
 
--- what the editor understands of a content whose JSON value is known, and of one that has none
+-- The editor reads a content with a known JSON value as that value.
 pub read_as : (number_of : Data → Option ℕ) (requested : List SentAsk) (content : List ℕ) (d : Data) → ReadsContent content (Some d) → read_so number_of requested content ≡ value_read number_of requested d
 unfolding read_so
 read_as number_of requested content d reads = said (value_read number_of requested) content d reads
@@ -31,7 +31,7 @@ not_understood requested content reads = go (is_utf8 content) refl
     go true is = ap (option_and_then (value_read request_number requested)) (reads (IsUtf8-from_is_utf8 content is))
     go false is = refl
 
--- a content that says something to a server is heard so
+-- The notification for an event is read as that event.
 reported_heard : (note : DocumentEvent) → notification_read (sent_as note) ≡ Some (notifies note)
 reported_heard (Opened uri version text) = refl
 reported_heard (Changed uri version all) = refl
@@ -46,7 +46,7 @@ says_heard requested (requests k uri ask) content (is, of) =
     said (λ d. message_read requested (meaning_of d)) content is.json is.reads ∙ ap (message_read requested) is.means
     ∙ ap (option_map (λ a. requests k a.uri a.ask)) of.is ∙ (λ i. Some (requests k (of.about i) (of.asks_this i)))
 
--- what holds of a value that a call gives, and what follows of it
+-- A property of a call's value can be weakened.
 pub if_ok : {A X : Type 0} {P Q : A → Type 0} (r : Result A X) → ((x : A) → P x → Q x) → IfOk r P → IfOk r Q
 if_ok (Ok x) f h = f x h
 if_ok (Err e) f h = tt

@@ -1,4 +1,4 @@
--- Lists of values that are empty.
+-- Proves that a list of JSON values is empty if its length is 0.
 use Rattle.std.proofs.Common.{◌≡◌, ◌∙◌, suc, List, [], ◌∷◌, length, arith, refl, ap}
 use Rattle.std.specs.Prelude.{Vec, vec_len, ◌==◌}
 use Rattle.std.specs.declared.alloc.Global.{Global}
@@ -7,7 +7,7 @@ use Rattle.serde_json.specs.View.{items_view}
 use Rattle.serde_json.specs.declared.value.Value.{Value}
 use Rattle.ob0_world_editor.specs.Understood.{has_none}
 
--- a list of values is empty where its length is 0
+-- A list of JSON values has length 0 exactly if it has no item.
 pub none_is_empty : (v : Vec Value Global) (values : List Value) → vec_len v ≡ length values → vec_len v == 0 ≡ has_none (items_view values)
 none_is_empty v values e = ap (λ n. n == 0) e ∙ go values
   where

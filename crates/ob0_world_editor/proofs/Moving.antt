@@ -1,4 +1,4 @@
--- Asks and answers that are found by their numbers, and what follows of it for the editor.
+-- Proves that asks and answers are found by their numbers, and what the editor's calls do with them.
 use Rattle.std.proofs.Common.{◌≡◌, ◌∙◌, ◌<◌, ◌≤◌, ◌+◌, ℕ, zero, suc, Bool, true, false, cond, List, [], ◌∷◌, ◌++◌, length, take, drop, get_or, map, Option, Some, None, option_map, arith, refl, ap, sym, subst, add-one}
 use Rattle.std.specs.Prelude.{Vec, is_some, unwrap_or, option_and_then, slice_get, ◌==◌}
 use Rattle.std.specs.declared.alloc.Global.{Global}
@@ -36,7 +36,7 @@ numbered_past xs n i is past =
 
 -- ---- the place of an answer
 
--- the answers before place i aren't it
+-- states that no answer before place i is the answer to ask k
 pub record Looked (xs : List answer.HeldAnswer) (k i : ℕ) : Type 0 where
   pub held : kept_answer k (map answer_of xs) ≡ kept_answer k (map answer_of (drop i xs))
   pub rest : all_but k (map answer_of xs) ≡ map answer_of (take i xs) ++ all_but k (map answer_of (drop i xs))
@@ -49,7 +49,7 @@ looked_here xs k i a h at this looked =
       looked.rest ∙ rw (cut, this) (sym (map-append answer_of (take i xs) (drop (suc i) xs))),
     )
 
--- where no answer is held, all stay
+-- If the editor has no answer to ask k, removing it changes nothing.
 pub none_goes : (k : ℕ) (list : List Answer) → kept_answer k list ≡ None → all_but k list ≡ list
 none_goes k [] h = refl
 none_goes k (a ∷ rest) h = go (a.number == k) h (none_goes k rest)
@@ -58,23 +58,23 @@ none_goes k (a ∷ rest) h = go (a.number == k) h (none_goes k rest)
     go true h next = absurd (cc)
     go false h next = ap (λ xs. a ∷ xs) (next h)
 
--- ---- what becomes of an answer
+-- ---- the outcome for an answer
 
 pub edits_at : (xs : List answer.HeldAnswer) (i : ℕ) (a : answer.HeldAnswer) → i < length xs → a ≡ get_or xs i a → Some (replacements a.edits.items) ≡ option_map (λ (x : answer.HeldAnswer). replacements x.edits.items) (slice_get xs i)
 edits_at xs i a h at = sym (ap (option_map (λ (x : answer.HeldAnswer). replacements x.edits.items)) (slice_get_read xs (length xs) i a refl h at))
 
--- an editor with fewer answers has no more of all else
+-- An editor with one answer less still has room for its counts.
 pub few_without : (e : Editor) (k : ℕ) → AreFew e → AreFew (without_answer e k)
 few_without e k few = record { openings = few.openings; asks = few.asks; versions = few.versions }
 
--- an answer that isn't held has nothing to be applied
+-- The outcome for an answer that the editor doesn't have is `NotHeld`.
 pub comes_not_held : (e : Editor) (k : ℕ) (o : Option (List Replacement)) → o ≡ kept_answer k e.answers → o ≡ None → ComesOf (done_by e (apply k)) (is_some (kept_answer k e.answers)) applying.TheVariants.NotHeld (without_answer e k)
 comes_not_held e k o is none =
     let absent : kept_answer k e.answers ≡ None = sym is ∙ none in
     subst (λ x. ComesOf (unwrap_or (option_and_then (applies (without_answer e k) k) x) (stays (without_answer e k))) (is_some x) applying.TheVariants.NotHeld (without_answer e k)) (sym absent)
     ((refl, refl, refl), refl)
 
--- one that is held, and makes nothing of its document
+-- The outcome for an answer whose edits can't be applied is `Dropped`.
 pub comes_dropped : (e rest : Editor) (k : ℕ) (edits : List Replacement) → kept_answer k e.answers ≡ Some edits → rest ≡ without_answer e k → IsRewritten rest (applies rest k edits) None → ComesOf (done_by e (apply k)) (is_some (kept_answer k e.answers)) applying.TheVariants.Dropped rest
 comes_dropped e rest k edits held is made =
     subst (λ (r : Editor). ComesOf (done_by e (apply k)) (is_some (kept_answer k e.answers)) applying.TheVariants.Dropped r) (sym is)
@@ -85,7 +85,7 @@ comes_dropped e rest k edits held is made =
     go None h = ((refl, refl, refl), refl)
     go (Some done) h = absurd h
 
--- one that is held, whose edits were made
+-- The outcome for an answer whose edits were made is `Made`.
 pub comes_made : (e rest new : Editor) (k : ℕ) (edits : List Replacement) (r : rewritten.Rewritten) (a : applying.Applying) → kept_answer k e.answers ≡ Some edits → rest ≡ without_answer e k → IsRewritten rest (applies rest k edits) (Some r) → IsAppliedAs rest r a new
     → ComesOf (done_by e (apply k)) (is_some (kept_answer k e.answers)) a new
 comes_made e rest new k edits r applying.TheVariants.NotHeld held is made applied = absurd applied
@@ -104,7 +104,7 @@ comes_made e rest new k edits r (applying.TheVariants.Made a content) held is ma
 
 -- ---- documents
 
--- what is done of a document that isn't open, or is
+-- Opening a document that isn't open has the result that `opens` defines.
 pub opens_so : (e new : Editor) (uri text : List ℕ) (content : Option (Vec ℕ Global)) → open_at e uri ≡ None → Acts (opens e uri text) content new → Acts (done_by e (open_document uri text)) content new
 opens_so e new uri text content none acts = subst (λ o. Acts (cond (is_some o) (stays e) (opens e uri text)) content new) (sym none) acts
 
@@ -117,7 +117,7 @@ slice_get_last : {A : Type 0} (xs : List A) (x : A) → slice_get (xs ++ x ∷ [
 slice_get_last [] x = refl
 slice_get_last (y ∷ xs) x = slice_get_last xs x
 
--- the editor has sent one more request, and the content is that request
+-- The editor has sent one more request, and the content is that request.
 pub asks_once_more : (e new : Editor) (uri : List ℕ) (ask : Ask) (d : Open) (content : Vec ℕ Global) (n : ℕ) (older : List requested.SentAsk) (this : requested.SentAsk) → open_at e uri ≡ Some d → map requested_of older ≡ e.requested → n ≡ length older
     → requested_of this ≡ record { ask = ask; uri = uri; text = d.text; opening = d.opening; version = d.version } → new ≡ record e { requested = map requested_of (older ++ this ∷ []) } → IsRequest (n + 1) uri ask content.items
     → Acts (done_by e (ask_about uri ask)) (Some content) new

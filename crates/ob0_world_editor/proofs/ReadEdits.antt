@@ -1,4 +1,5 @@
--- The edits that were read so far, before those of the values that are left.
+-- Proves by induction on the values of a list that its edits are read: the edits read so far, then the edits of the
+-- other values.
 use Rattle.std.proofs.Common.{◌≡◌, ◌∙◌, ◌<◌, ◌≤◌, ◌+◌, ℕ, zero, suc, List, [], ◌∷◌, ◌++◌, length, drop, get_or, Option, Some, None, option_map, option_and_then, refl, sym, ap, append_assoc, append-nil, add-one, arith}
 use Rattle.std.proofs.lemmas.List.{map-append}
 use Rattle.std.proofs.Math.Seq.{drop-cons}
@@ -15,7 +16,7 @@ regrouped : (before : List Replacement) (e : Replacement) (o : Option (List Repl
 regrouped before e None = refl
 regrouped before e (Some es) = ap Some (sym (append_assoc before (e ∷ []) es))
 
--- one more value is read
+-- Reading one more edit extends the edits that were read so far.
 pub read_one : (values : List Value) (i : ℕ) (v : Value) (edits after : List Edit) (edit : Edit) → i < length values → v ≡ get_or values i v → Some (replacement_of edit) ≡ edit_in (view v) → after ≡ edits ++ edit ∷ [] → HasRead values i edits → HasRead values (i + 1) after
 read_one values i v edits after edit within at is grown read =
     let cut : drop i values ≡ v ∷ drop (suc i) values = drop-cons values i v within ∙ ap (λ x. x ∷ drop (suc i) values) (sym at) in
@@ -33,11 +34,11 @@ same : (o : Option (List Replacement)) → o ≡ option_map (λ es. es) o
 same None = refl
 same (Some es) = refl
 
--- no value is read yet
+-- Before the first value no edit is read.
 pub nothing_read : (values : List Value) (edits : List Edit) → edits ≡ [] → HasRead values 0 edits
 nothing_read values edits none = same (edits_in (items_view values)) ∙ ap (λ (es : List Edit). option_map (λ rs. replacements es ++ rs) (edits_in (items_view values))) (sym none)
 
--- one of the values is no edit
+-- If one of the values is no edit, the list of edits can't be read.
 pub none_read : (values : List Value) (i : ℕ) (v : Value) (edits : List Edit) → i < length values → v ≡ get_or values i v → None ≡ edit_in (view v) → HasRead values i edits → None ≡ edits_in (items_view values)
 none_read values i v edits within at is read =
     let cut : drop i values ≡ v ∷ drop (suc i) values = drop-cons values i v within ∙ ap (λ x. x ∷ drop (suc i) values) (sym at) in
@@ -54,7 +55,7 @@ past_end [] (suc i) h = refl
 past_end (v ∷ values) zero h = absurd (omega arith)
 past_end (v ∷ values) (suc i) h = past_end values i (omega arith)
 
--- all values are read
+-- After the last value all edits are read.
 pub all_read : (values : List Value) (i : ℕ) (edits : List Edit) → length values ≤ i → HasRead values i edits → Some (replacements edits) ≡ edits_in (items_view values)
 all_read values i edits past read =
     sym (

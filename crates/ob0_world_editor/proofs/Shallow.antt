@@ -1,4 +1,5 @@
--- Messages that an editor writes aren't nested deeply, and are read as they were meant.
+-- Proves that the messages that an editor writes aren't nested deeply, and that the server reads the intended messages
+-- from them.
 use Rattle.std.proofs.Common.{◌≡◌, ◌≤◌, ◌<◌, ◌^◌, ℕ, pos, List, [], ◌∷◌, true, cond, Option, Some, None, map, arith, refl, ap}
 use Rattle.std.specs.Prelude.{nat_lt, string_bytes, Ok, codes}
 use Rattle.std.specs.Str.{chars}
@@ -37,7 +38,7 @@ shallow_request k uri (inline_all position) = omega arith
 shallow_request k uri (format Tab) = omega arith
 shallow_request k uri (format (Spaces n)) = omega arith
 
--- ---- changes are read as they were written
+-- ---- changes are read back
 
 read_back : (range : Option Range) (new : List ℕ) → change_in (change_object range new) ≡ Some (record { range = range; text = chars new })
 read_back (Some range) new = refl
@@ -47,7 +48,7 @@ changes_read_back : (cs : List Change) → all_changes (items_of (map change_val
 changes_read_back [] = refl
 changes_read_back (c ∷ cs) = rw (read_back c.range (string_bytes c.text), changes_read_back cs) refl
 
--- a version of 63 bits is read as it was written
+-- A version below 2^63 is read back.
 version_read : (n : ℕ) → n < 2 ^ 63 → cond (nat_lt n (2 ^ 63)) (Some (pos n)) None ≡ Some (pos n)
 version_read n h = rw (lt_true n (2 ^ 63) h) refl
   where

@@ -1,4 +1,4 @@
--- The request that begins a conversation (LSP 3.17, initialize).
+-- Defines the request that begins a conversation.
 -- Rule: LSP 3.17, initialize.
 use Rattle.std.specs.Prelude.{true, false, codes}
 use Rattle.serde_json.specs.Data.{Data, boolean, string, array, object, no_items, item, Members, member, no_members}
@@ -30,8 +30,8 @@ utf8_offered =
     object
     (member (codes "positionEncodings") (array (item (string (codes "utf-8")) no_items)) no_members)
 
--- {"general":{..},"textDocument":{..},"workspace":{..}},
--- without `general` where UTF-16 units are counted
+-- {"general":{..},"textDocument":{..},"workspace":{..}}; if positions count in UTF-16 units,
+-- without `general`
 abbrev pub capabilities_for : Unit → Members
 capabilities_for Utf16 =
     member (codes "textDocument") actions_taken
@@ -50,7 +50,7 @@ initialize_message unit =
     (object (member (codes "capabilities") (object (capabilities_for unit)) no_members))
     no_members))))
 
--- returns the client that the server then knows
+-- returns the client as the server knows it after this `initialize`
 abbrev pub client_for : Unit → Client
 client_for unit =
     record {

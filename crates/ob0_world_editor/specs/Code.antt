@@ -1,4 +1,4 @@
--- Defines the meaning of the code's values.
+-- Defines the meaning of the code's asks, answers, messages and applied edits.
 -- Rule: none; for contracts: what values of the code mean.
 use Rattle.std.specs.Prelude.{string_bytes}
 use Rattle.std.specs.Str.{chars}
@@ -11,14 +11,14 @@ use Rattle.ob0_world_rules.specs.Edited.{replacements}
 use Rattle.ob0_world_rules.specs.Asks.{Ask, rename, inline_here, inline_all, format}
 use Rattle.ob0_world_rules.specs.ClientAndServer.{SentAsk, Answer, Applied, ToEditor, publishes, answers}
 
--- an ask of the code
+-- returns the ask that a value of the code means
 abbrev pub ask_of : ask.Ask → Ask
 ask_of (ask.TheVariants.Rename position name) = rename position (string_bytes name)
 ask_of (ask.TheVariants.InlineHere position) = inline_here position
 ask_of (ask.TheVariants.InlineAll position) = inline_all position
 ask_of (ask.TheVariants.Format indent) = format indent
 
--- a request that was sent, of the code
+-- returns the sent request that a value of the code means
 abbrev pub requested_of : requested.SentAsk → SentAsk
 requested_of a =
     record {
@@ -29,17 +29,17 @@ requested_of a =
       version = a.version;
     }
 
--- an answer with edits, of the code
+-- returns the answer that a value of the code means
 abbrev pub answer_of : answer.HeldAnswer → Answer
 answer_of a = record { number = a.number; edits = replacements a.edits.items }
 
--- a message to the editor, of the code
+-- returns the message to the editor that a value of the code means
 abbrev pub message_of : message.Message → ToEditor
 message_of (message.TheVariants.Published uri version empty) =
     publishes (string_bytes uri) version empty
 message_of (message.TheVariants.Answered number edits) = answers number (replacements edits.items)
 
--- an applied edit of the code
+-- returns the applied edit that a value of the code means
 abbrev pub applied_of : applied.Applied → Applied
 applied_of a =
     record {

@@ -7,23 +7,23 @@ use Rattle.std.specs.Coded.{Coded, code_by, coded×, coded_ℕ, coded_list}
 use Rattle.ob0_world_editor.specs.declared.documents.Open as stored
 use Rattle.ob0_world_rules.specs.ClientAndServer.{Open, EditorDocuments}
 
--- an open document of the code
+-- returns the open document that a value of the code means
 abbrev pub open_document : stored.Open → Open
 open_document d =
     record { version = d.version; text = chars (string_bytes d.text); opening = d.opening }
 
--- the open documents as a map from uris
+-- returns the open documents as a map from the bytes of their uris
 abbrev pub editor_documents : {A : Type 0} → List (String A × stored.Open) → EditorDocuments
 editor_documents entries =
     map_of.from_entries (map (λ e. (string_bytes e.0, open_document e.1)) entries)
 
--- the code of an open document
+-- the encoding of an open document as the tuple of its fields
 abbrev pub open_code : Coded Open
 open_code =
     code_by (ℕ × (List ℕ × ℕ)) (coded× coded_ℕ (coded× (coded_list coded_ℕ) coded_ℕ))
     (λ d. (d.version, (d.text, d.opening)))
     (λ p. record { version = p.0; text = p.1.0; opening = p.1.1 }) (λ d. refl)
 
--- the code of the open documents
+-- the encoding of the open documents as a map of encoded documents
 abbrev pub open_documents_code : Coded EditorDocuments
 open_documents_code = map_of.code (coded_list coded_ℕ) open_code

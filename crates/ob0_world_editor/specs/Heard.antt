@@ -1,4 +1,4 @@
--- Defines the message to the server in a content, in the words of the protocol's reader.
+-- Defines the message to the server in a content, in the terms in which the server reads it.
 -- Rule: docs/PROTOCOL.md, Contents, JSON shapes 4.
 use Rattle.std.specs.Prelude.{◌≡◌, ⊤, ℕ, List, Option, Some, None, Ok, option_and_then, option_map, if◌then◌else◌}
 use Rattle.std.specs.Str.{is_utf8}
@@ -16,7 +16,8 @@ use Rattle.ob0_world_editor.specs.Shapes.{method_of, empty_at}
 
 -- ---- as a function: the message in a content, in which an ask is known by its number
 
--- returns the number that a request has as its id
+-- Returns the number that a request has as its id. None if its id isn't a whole number that isn't
+-- negative.
 abbrev pub request_number : Data → Option ℕ
 request_number (number (unsigned k)) = Some k
 request_number (number (negative z)) = None
@@ -27,7 +28,8 @@ request_number (string s) = None
 request_number (array ds) = None
 request_number (object ms) = None
 
--- returns the message to the server that a notification is
+-- Returns the message to the server that a notification means. None for `exit`, for an unreadable
+-- one without a uri, and for one that the server ignores.
 abbrev pub notification_read : Notification → Option ToServer
 notification_read exits = None
 notification_read (opens uri version text) = Some (notifies (Opened uri version text))
@@ -37,11 +39,11 @@ notification_read (unreadable (Some uri)) = Some (notifies (Lost uri))
 notification_read (unreadable None) = None
 notification_read other = None
 
--- returns the request with this number, as the editor sent it
+-- Returns the request with this number, as the editor sent it. None if there is none.
 abbrev pub request_read : List SentAsk → ℕ → Option ToServer
 request_read requested k = option_map (λ a. requests k a.uri a.ask) (request_numbered requested k)
 
--- returns the message to the server that a JSON-RPC message is
+-- Returns the message to the server that a JSON-RPC message means. None if it means none.
 abbrev pub message_read : List SentAsk → MessageMeaning → Option ToServer
 message_read requested (request id method params) =
     option_and_then (request_read requested) (request_number id)
@@ -50,7 +52,8 @@ message_read requested not_json = None
 message_read requested not_a_message = None
 message_read requested response = None
 
--- returns the message in a content, when these asks were sent
+-- Returns the message to the server in a content, if these asks were sent. None if it is no such
+-- message.
 unfoldable pub heard : List SentAsk → List ℕ → Option ToServer
 heard requested content =
     if is_utf8 content
@@ -59,28 +62,28 @@ heard requested content =
 
 -- ---- as the server reads it
 
--- returns the notification that tells the server of this event
+-- returns the notification for this event, as the server reads it
 abbrev pub sent_as : DocumentEvent → Notification
 sent_as (Opened uri version text) = opens uri version text
 sent_as (Changed uri version all) = changes uri version all
 sent_as (Lost uri) = unreadable (Some uri)
 sent_as (Closed uri) = closes uri
 
--- returns the request that sends an ask
+-- returns the request for this ask, as the server reads it
 abbrev pub call_for : List ℕ → Ask → wire.ClientRequest
 call_for uri (rename position name) = wire.rename (record { uri = uri; position = position }) name
 call_for uri (inline_here position) = wire.code_action uri (empty_at position) None
 call_for uri (inline_all position) = wire.code_action uri (empty_at position) None
 call_for uri (format indent) = wire.formatting uri (indent_read indent)
 
--- states that the version is a signed number of 64 bits
+-- holds if the event's version, if it has one, fits into a signed number of 64 bits
 abbrev pub HasVersion : DocumentEvent → Type 0
 HasVersion (Opened uri version text) = as_i64 (of_integer version) ≡ Some version
 HasVersion (Changed uri version all) = as_i64 (of_integer version) ≡ Some version
 HasVersion (Lost uri) = ⊤
 HasVersion (Closed uri) = ⊤
 
--- states that the content is the notification of this event
+-- states that the content is the notification for this event
 pub record IsNote (note : DocumentEvent) (content : List ℕ) : Type 0 where
   pub json : Data
   pub reads : ReadsContent content (Some json)
@@ -90,7 +93,7 @@ pub record IsNote (note : DocumentEvent) (content : List ℕ) : Type 0 where
   pub reported : note_of method params ≡ sent_as note
   pub fits : HasVersion note
 
--- states that the content is the request with this id, for this ask about a document
+-- states that the content is the request for this ask about a document, with this id
 pub record IsRequestWithId (id : Data) (uri : List ℕ) (ask : Ask) (content : List ℕ)
     : Type 0 where
   pub json : Data
@@ -99,18 +102,18 @@ pub record IsRequestWithId (id : Data) (uri : List ℕ) (ask : Ask) (content : L
   pub means : meaning_of json ≡ request id (method_of ask) params
   pub calls : request_by_method (method_of ask) params ≡ Ok (call_for uri ask)
 
--- states the same of a request whose id is this number
+-- holds if the content is the request for this ask about a document, with the number k as its id
 abbrev pub IsRequest : ℕ → List ℕ → Ask → List ℕ → Type 0
 IsRequest k uri ask content = IsRequestWithId (number (unsigned k)) uri ask content
 
--- states that ask k is this one
+-- states that the request with number k is this ask about this document
 pub record IsAsk (requested : List SentAsk) (k : ℕ) (uri : List ℕ) (ask : Ask) : Type 0 where
   pub sent : SentAsk
   pub is : request_numbered requested k ≡ Some sent
   pub about : sent.uri ≡ uri
   pub asks_this : sent.ask ≡ ask
 
--- states that the content is this message to a server
+-- holds if the content is this message to the server
 abbrev pub SaysToServer : List SentAsk → ToServer → List ℕ → Type 0
 SaysToServer requested (notifies note) content = IsNote note content
 SaysToServer requested (requests k uri ask) content =

@@ -1,4 +1,4 @@
--- Defines what a call of the editor did.
+-- Defines the result of each call of the editor.
 -- Rule: none; for contracts: what a call of the editor did.
 use Rattle.std.specs.Prelude.{◌≡◌, ◌<◌, ◌-◌, ◌^◌, ⊤, ℕ, Bool, true, false, pos, List, [], ◌∷◌, Vec, Option, Some, None, length, map, option_map, slice_get}
 use Rattle.std.specs.List.{remove}
@@ -15,18 +15,18 @@ use Rattle.ob0_world_editor.specs.declared.applied.Applying as applying
 use Rattle.ob0_world_editor.specs.declared.editor.HeldAnswer as answer
 use Rattle.ob0_world_editor.specs.declared.editor.Rewritten as rewritten
 
--- states that each count can rise by one
+-- states that each count of the editor can rise by one within 63 bits
 pub record AreFew (e : Editor) : Type 0 where
   pub openings : e.openings < 2 ^ 63 - 1
   pub asks : length e.requested < 2 ^ 63 - 1
   pub versions : (uri : List ℕ) (d : Open) → open_at e uri ≡ Some d → d.version < 2 ^ 63 - 1
 
--- there is an edit
+-- true if there is an edit
 abbrev pub has_edits : List Replacement → Bool
 has_edits [] = false
 has_edits (e ∷ es) = true
 
--- one message at most is sent, and this content, if any, says it
+-- holds if at most one message is sent, and the content, if there is one, is that message
 abbrev pub SaysSent : List SentAsk → List ToServer → Option (Vec ℕ Global) → Type 0
 SaysSent requested [] None = ⊤
 SaysSent requested [] (Some content) = ⊥
@@ -34,15 +34,15 @@ SaysSent requested (message ∷ more) None = ⊥
 SaysSent requested (message ∷ more) (Some content) =
     SaysToServer requested message content.items × (more ≡ [])
 
--- the editor has done this, and this content, if any, says its message
+-- holds if the editor has done this, and the content, if there is one, is the message that it sends
 abbrev pub Acts : Done → Option (Vec ℕ Global) → Editor → Type 0
 Acts done content new = (new ≡ done.editor) × SaysSent new.requested done.sent content
 
--- nothing was sent or applied
+-- holds if the editor has done this, and nothing was sent or applied
 abbrev pub IsSilent : Done → Editor → Type 0
 IsSilent done new = (new ≡ done.editor) × (done.sent ≡ []) × (done.applied ≡ [])
 
--- this is what became of an answer, which was kept or not
+-- holds if this is the outcome for an answer, which the editor had (`held`) or not
 abbrev pub ComesOf : Done → Bool → applying.Applying → Editor → Type 0
 ComesOf done held applying.TheVariants.NotHeld new = IsSilent done new × (held ≡ false)
 ComesOf done held applying.TheVariants.Dropped new = IsSilent done new × (held ≡ true)
@@ -51,7 +51,8 @@ ComesOf done held (applying.TheVariants.Made applied content) new =
 
 -- ---- the steps of applying
 
--- states that this is the index of the first answer to ask k, and that the others are left without it
+-- Holds if this is the index of the first answer to ask k, and the answers without it are the
+-- others. None means that there is no such answer.
 abbrev pub IsPlaceOf : List answer.HeldAnswer → ℕ → Option ℕ → Type 0
 IsPlaceOf answers k (Some i) =
     (i < length answers)
@@ -60,7 +61,7 @@ IsPlaceOf answers k (Some i) =
     × (all_but k (map answer_of answers) ≡ map answer_of (remove answers i))
 IsPlaceOf answers k None = kept_answer k (map answer_of answers) ≡ None
 
--- the editor with a document's new text, and the message that says so
+-- returns the editor with a document's new text
 abbrev pub with_text : Editor → rewritten.Rewritten → Editor
 with_text e r =
     let a : Applied = applied_of r.applied in
@@ -70,38 +71,38 @@ with_text e r =
           (record { version = r.version; text = a.after; opening = r.opening });
     }
 
--- the notification of a document's new text
+-- returns the notification of a document's new text
 abbrev pub text_sent : rewritten.Rewritten → ToServer
 text_sent r =
     let a : Applied
     = applied_of r.applied in notifies (Changed a.uri (pos r.version) (whole_text a.after ∷ []))
 
--- the editor has this document's new text, and the message says so
+-- states that the act gives this document its new text, applies the edit and sends its notification
 pub record Rewrites (old : Editor) (done : Done) (r : rewritten.Rewritten) : Type 0 where
   pub text : done.editor ≡ with_text old r
   pub applied : done.applied ≡ applied_of r.applied ∷ []
   pub says : done.sent ≡ text_sent r ∷ []
   pub few : r.version < 2 ^ 63
 
--- this document gets a new text, if any does
+-- holds if the act gives the document this new text, or if there is neither an act nor a new text
 abbrev pub IsRewritten : Editor → Option Done → Option rewritten.Rewritten → Type 0
 IsRewritten e None None = ⊤
 IsRewritten e None (Some r) = ⊥
 IsRewritten e (Some done) None = ⊥
 IsRewritten e (Some done) (Some r) = Rewrites e done r
 
--- a document with the text that edits made of it, if they make one
+-- returns the result of giving a document its edited text, if the edits can be made
 abbrev pub with_edits : Editor → List ℕ → Open → Option (List ℕ) → Option Done
 with_edits e uri d edited =
     let applied : List ℕ → Applied = λ text. record { uri = uri; before = d.text; after = text } in
     option_map (λ text. rewrites e uri d text (whole_text text ∷ []) (applied text ∷ [])) edited
 
--- the editor has it, and this content is the notification
+-- holds if the editor has the document's new text, and the content is its notification
 abbrev pub StoresRewritten : Editor → rewritten.Rewritten → Vec ℕ Global → Editor → Type 0
 StoresRewritten old r content new =
     (new ≡ with_text old r) × SaysToServer new.requested (text_sent r) content.items
 
--- the edit was made, and this content is the notification
+-- holds if the edit was made, and the content is the notification of the new text
 abbrev pub IsAppliedAs : Editor → rewritten.Rewritten → applying.Applying → Editor → Type 0
 IsAppliedAs old r applying.TheVariants.NotHeld new = ⊥
 IsAppliedAs old r applying.TheVariants.Dropped new = ⊥

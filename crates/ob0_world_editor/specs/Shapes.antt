@@ -1,4 +1,4 @@
--- The messages that an editor writes, as JSON values (LSP 3.17).
+-- Defines the messages that an editor writes, as JSON values (LSP 3.17).
 -- Members are in byte order of their names.
 -- Rule: LSP 3.17, notifications and requests of a client; docs/PROTOCOL.md, JSON shapes 4.
 use Rattle.std.specs.Prelude.{ℕ, List, true, false, Bool, Option, Some, None, codes, string_bytes}
@@ -28,19 +28,19 @@ opened_value uri version contents =
     (member (codes "uri") (text uri)
     (member (codes "version") (number (unsigned version)) no_members))))
 
--- {"textDocument":{..}} of an opened document
+-- {"textDocument":{..}}, for an opened document
 abbrev pub open_params : List ℕ → ℕ → List ℕ → Data
 open_params uri version contents =
     object (member (codes "textDocument") (opened_value uri version contents) no_members)
 
--- {"range":R,"text":t}, without `range` for the whole text
+-- {"range":R,"text":t}; if the whole text changes, without `range`
 abbrev pub change_object : Option Range → List ℕ → Data
 change_object (Some range) new =
     object (member (codes "range") (range_value range.start range.end)
     (member (codes "text") (text new) no_members))
 change_object None new = object (member (codes "text") (text new) no_members)
 
--- a change as JSON
+-- returns a change as a JSON value
 abbrev pub change_value : Change → Data
 change_value c = change_object c.range (string_bytes c.text)
 
@@ -72,7 +72,7 @@ rename_params uri position name =
     object (member (codes "newName") (text name) (member (codes "position")
     (position_value position) (member (codes "textDocument") (document_value uri) no_members)))
 
--- the empty range at a position
+-- returns the empty range at a position
 abbrev pub empty_at : Position → Range
 empty_at position = record { start = position; end = position }
 
@@ -93,7 +93,7 @@ options_by spaces size =
     object (member (codes "insertSpaces") (boolean spaces)
     (member (codes "tabSize") (number (unsigned size)) no_members))
 
--- formatting options as JSON
+-- returns formatting options as a JSON value
 abbrev pub options_value : Indent → Data
 options_value Tab = options_by false 1
 options_value (Spaces n) = options_by true n
@@ -104,14 +104,15 @@ formatting_params uri indent =
     object (member (codes "options") (options_value indent)
     (member (codes "textDocument") (document_value uri) no_members))
 
--- the method of an ask; both ways of inlining request the actions at their place
+-- Returns the method of the request for an ask. Both ways of inlining request the code actions at
+-- their position.
 abbrev pub method_of : Ask → List ℕ
 method_of (rename position name) = codes "textDocument/rename"
 method_of (inline_here position) = codes "textDocument/codeAction"
 method_of (inline_all position) = codes "textDocument/codeAction"
 method_of (format indent) = codes "textDocument/formatting"
 
--- the params of a request
+-- returns the params of the request for an ask
 abbrev pub params_for : List ℕ → Ask → Data
 params_for uri (rename position name) = rename_params uri position name
 params_for uri (inline_here position) = actions_params uri position

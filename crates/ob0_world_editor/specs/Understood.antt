@@ -1,5 +1,5 @@
--- Defines the message to the editor in a content: a publication, or the answer to a request, which is
--- read according to the request.
+-- Defines the message to the editor in a content. It is a publication, or the answer to a request,
+-- which is read according to the request.
 -- Rule: docs/PROTOCOL.md, JSON shapes 2.
 use Rattle.std.specs.Prelude.{ℕ, ℤ, List, [], ◌∷◌, Bool, true, false, Option, Some, None, is_some, option_and_then, option_map, unwrap_or, if◌then◌else◌, codes}
 use Rattle.std.specs.Str.{bytes_eq, chars, is_utf8}
@@ -15,24 +15,24 @@ use Rattle.ob0_world_editor.specs.Heard.{request_number}
 
 -- ---- publications
 
--- returns whether a text exists and is this one
+-- true if a text exists and is this one
 abbrev pub is_text : List ℕ → Option (List ℕ) → Bool
 is_text text (Some found) = bytes_eq found text
 is_text text None = false
 
--- returns whether a list has no item
+-- true if a list has no item
 abbrev pub has_none : Items → Bool
 has_none no_items = true
 has_none (item d ds) = false
 
--- returns a publication, if its parts can be read
+-- Returns the publication with these parts. None if the uri or the diagnostics are missing.
 abbrev pub publication_by : Option (List ℕ) → Option ℤ → Option Items → Option ToEditor
 publication_by (Some uri) version (Some diagnostics) =
     Some (publishes uri version (has_none diagnostics))
 publication_by (Some uri) version None = None
 publication_by None version diagnostics = None
 
--- reads a publication
+-- Returns the publication that the params of a notification mean. None if they can't be read.
 abbrev pub publication_understood : Data → Option ToEditor
 publication_understood params =
     publication_by (text_member (codes "uri") params)
@@ -41,59 +41,62 @@ publication_understood params =
 
 -- ---- edits
 
--- returns an edit, if its parts can be read
+-- Returns the edit with these parts. None if one of them is missing.
 abbrev pub edit_by : Option Range → Option (List ℕ) → Option Replacement
 edit_by (Some range) (Some text) = Some (record { range = range; text = chars text })
 edit_by (Some range) None = None
 edit_by None text = None
 
--- reads an edit
+-- Returns the edit that a JSON value means. None if it can't be read.
 abbrev pub edit_in : Data → Option Replacement
 edit_in d = edit_by (range_member (codes "range") d) (text_member (codes "newText") d)
 
--- reads all edits of a list, or returns None if one of them can't be read
+-- Returns all edits of a list. None if one of them can't be read.
 abbrev pub edits_in : Items → Option (List Replacement)
 edits_in no_items = Some []
 edits_in (item d ds) = option_and_then (λ e. option_map (λ es. e ∷ es) (edits_in ds)) (edit_in d)
 
--- returns the list of edits of the first document in a WorkspaceEdit
+-- Returns the list of edits of the first document in a WorkspaceEdit. None if there is none.
 abbrev pub workspace_items : Data → Option Items
 workspace_items value =
     option_and_then as_array (option_and_then (get (codes "edits"))
     (option_and_then (at 0) (get (codes "documentChanges") value)))
 
--- returns the first action with this title
+-- Returns the first action with this title. None if there is none.
 abbrev pub titled_action : List ℕ → Items → Option Data
 titled_action title no_items = None
 titled_action title (item d ds) =
     if is_text title (text_member (codes "title") d) then Some d else titled_action title ds
 
--- returns the list of edits of the action with this title
+-- Returns the list of edits of the first action with this title. None if there is none.
 abbrev pub action_items : List ℕ → Data → Option Items
 action_items title value =
     option_and_then workspace_items
     (option_and_then (get (codes "edit")) (option_and_then (titled_action title) (as_array value)))
 
--- Returns the list of edits in the result of an ask. A rename is answered with a WorkspaceEdit, an
--- inlining with actions, one of which has its title, and formatting with a list of edits.
+-- Returns the list of edits in the result of an ask, or None. The result of a rename is a
+-- WorkspaceEdit. An inlining has a list of actions, one of which has the title that was asked for.
+-- A formatting has a list of edits.
 abbrev pub items_for : Ask → Data → Option Items
 items_for (rename position name) value = workspace_items value
 items_for (inline_here position) value = action_items (codes "Inline here") value
 items_for (inline_all position) value = action_items (codes "Inline everywhere") value
 items_for (format indent) value = as_array value
 
--- returns the edits of an answer; a refusal and null have none
+-- Returns the edits of an answer. A refusal, null and edits that can't be read give an empty list.
 abbrev pub edits_for : Ask → Data → List Replacement
 edits_for ask answer =
     unwrap_or
     (option_and_then edits_in (option_and_then (items_for ask) (get (codes "result") answer))) []
 
--- returns the answer to the request with this number, with its edits
+-- Returns the answer to the request with this number, with its edits. None if there is no such
+-- request.
 abbrev pub answer_to : List SentAsk → Data → ℕ → Option ToEditor
 answer_to requested answer k =
     option_map (λ a. answers k (edits_for a.ask answer)) (request_numbered requested k)
 
--- reads an answer to an ask; a function finds the ask's number from the id
+-- Returns the answer to an ask that a JSON value means. `number_of` finds the ask's number from the
+-- answer's id.
 abbrev pub answer_read : (Data → Option ℕ) → List SentAsk → Data → Option ToEditor
 answer_read number_of requested answer =
     option_and_then (answer_to requested answer)
@@ -101,25 +104,27 @@ answer_read number_of requested answer =
 
 -- ---- messages
 
--- reads a notification, if its method is `textDocument/publishDiagnostics`
+-- Returns the publication that a notification means. None if its method isn't
+-- `textDocument/publishDiagnostics` or it can't be read.
 abbrev pub notice_understood : Data → Option ToEditor
 notice_understood d =
     if is_text (codes "textDocument/publishDiagnostics") (text_member (codes "method") d)
     then option_and_then publication_understood (get (codes "params") d) else None
 
--- reads a message; a function finds an ask's number from the id of its answer
+-- Returns the message to the editor that a JSON value means. `number_of` finds an ask's number from
+-- the id of its answer.
 abbrev pub value_read : (Data → Option ℕ) → List SentAsk → Data → Option ToEditor
 value_read number_of requested d =
     if is_some (get (codes "method") d)
     then notice_understood d else answer_read number_of requested d
 
--- returns the message in a content, when these asks were sent; a function finds an ask's number from
--- the id of its answer
+-- Returns the message to the editor in a content, if these asks were sent. `number_of` finds an
+-- ask's number from the id of its answer.
 unfoldable pub read_so : (Data → Option ℕ) → List SentAsk → List ℕ → Option ToEditor
 read_so number_of requested content =
     if is_utf8 content
     then option_and_then (value_read number_of requested) (read content) else None
 
--- returns the message in a content, when each ask has its number as its id
+-- returns the message to the editor in a content, if each ask has its number as its id
 abbrev pub understood : List SentAsk → List ℕ → Option ToEditor
 understood requested content = read_so request_number requested content

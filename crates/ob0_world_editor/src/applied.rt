@@ -5,7 +5,7 @@ ghost use Rattle.ob0_world_editor.specs.Code.{applied_of};
 
 use std::alloc::{AllocError, Global};
 
-/// An edit that the editor applied.
+/// An edit that the editor applied: the document's uri, and its text before and after.
 #[derive(Debug, Drop)]
 pub struct Applied {
     pub uri: String,
@@ -16,15 +16,16 @@ pub struct Applied {
 /// The result of applying an answer.
 #[derive(Drop)]
 pub enum Applying {
-    /// No such answer is stored.
+    /// The editor has no answer with this number.
     NotHeld,
-    /// The document isn't the one of the request any more.
+    /// The answer was discarded: its document isn't the one that was asked about any more, or two edits share a
+    /// character.
     Dropped,
-    /// The edits were made, and this content is the notification.
+    /// The edits were made. The content is the notification that tells the server.
     Made { applied: Applied, content: Vec<u8> },
 }
 
-/// An edit of a document that had the text `before`.
+/// Returns an applied edit with copies of the uri and the text before. `after` is the text after it.
 pub fn applied_edit(
     alloc: Global,
     uri: &str,

@@ -1,11 +1,11 @@
-//! The requests of an editor.
+//! The requests of an editor whose answers it may apply.
 ghost use Rattle.std.specs.Prelude.{◌≡◌, IfOk};
 ghost use Rattle.ob0_world_editor.specs.Code.{ask_of};
 
 use ob0_text::{Indent, Position};
 use std::alloc::{AllocError, Global};
 
-/// A request about a document whose answer the editor may apply.
+/// A request about a document, whose answer the editor may apply.
 #[derive(Debug, Drop)]
 pub enum Ask {
     Rename { position: Position, name: String },
@@ -14,7 +14,7 @@ pub enum Ask {
     Format { indent: Indent },
 }
 
-/// Another ask of the same.
+/// Returns a copy of an ask.
 pub fn copy_of(alloc: Global, ask: &Ask) -> Result<Ask, AllocError>
     ensures { IfOk result (λ copy. ask_of copy ≡ ask_of ask.now) }
 {

@@ -1,4 +1,4 @@
-//! The first message of an editor.
+//! Writes the first message of an editor: `initialize`.
 ghost use Rattle.std.specs.Prelude.{◌≡◌, [], ◌∷◌, ◌++◌, Some, IfOk, OnOk};
 ghost use Rattle.serde_json.specs.Data.{no_members, object};
 ghost use Rattle.ob0_rpc.specs.Messages.{ReadsContent};
@@ -10,8 +10,8 @@ use ob0_rpc::{OneMember, WriteJson, content_of};
 use ob0_text::Unit;
 use std::alloc::{AllocError, Global};
 
-/// The request that begins a conversation, of an editor that takes edits of versioned documents and code actions that
-/// aren't commands, and offers bytes of UTF-8 where it counts them.
+/// Returns the request that begins a conversation, as the content of a message. The client accepts edits with document
+/// versions, and literal code actions. It offers UTF-8 if the editor counts positions in bytes of UTF-8.
 pub fn initialize(alloc: Global, unit: Unit) -> Result<Vec<u8>, AllocError>
     ensures { IfOk result (λ content. ReadsContent content.items (Some (initialize_message unit))) }
 {
@@ -24,7 +24,7 @@ pub fn initialize(alloc: Global, unit: Unit) -> Result<Vec<u8>, AllocError>
     content_of(alloc, &Request { id, method, params })
 }
 
-/// What an editor can do.
+/// The capabilities of the client, as a JSON value.
 #[derive(Drop)]
 struct ClientCapabilities {
     unit: Unit,
@@ -34,7 +34,7 @@ impl WriteJson for ClientCapabilities {
     ghost value = { λ c. object (capabilities_for c.unit) };
 
     fn write(&self, out: &mut Vec<u8>) -> Result<(), AllocError> {
-        // It takes code actions that aren't commands, of whatever kind.
+        // The client accepts literal code actions, of any kind.
         let actions = OneMember {
             key: "codeAction",
             value: OneMember {
@@ -42,7 +42,7 @@ impl WriteJson for ClientCapabilities {
                 value: Nothing {},
             },
         };
-        // It takes edits with the versions of the documents that they are for.
+        // The client accepts edits with document versions.
         let edits = OneMember {
             key: "workspaceEdit",
             value: OneMember {
@@ -72,7 +72,7 @@ impl WriteJson for ClientCapabilities {
     }
 }
 
-/// An object without members.
+/// A JSON object without members.
 #[derive(Drop)]
 struct Nothing {}
 

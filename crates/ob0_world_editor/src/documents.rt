@@ -9,17 +9,17 @@ use std::alloc::{AllocError, Global};
 use std::collections::BTreeMap;
 use std::marker::Model;
 
-/// A document that is open in the editor.
+/// A document that is open in the editor: its version, its text and the number of its opening.
 #[derive(Drop)]
 pub struct Open {
     pub version: u64,
     pub text: String,
-    /// No two openings have one number.
+    /// Each opening of a document has its own number.
     pub opening: u64,
 }
 
 impl Open {
-    /// A document with a copy of this text.
+    /// Returns a document with a copy of this text.
     pub fn with_text(
         alloc: Global,
         version: u64,
@@ -56,7 +56,7 @@ impl Model for OpenDocuments {
 }
 
 impl OpenDocuments {
-    /// No open document.
+    /// Returns a map without documents.
     pub fn new(alloc: Global) -> OpenDocuments
         ensures { result ≡ map_of.empty }
     {
@@ -65,14 +65,14 @@ impl OpenDocuments {
         }
     }
 
-    /// An open document of the editor.
+    /// Returns the open document with this uri. None if it isn't open.
     pub fn get(&self, uri: &str) -> Option<&Open>
         ensures { option_map (λ d. open_document d.now) result ≡ map_of.get self.now uri.now }
     {
         self.by_uri.get(uri)
     }
 
-    /// Opens a document, or replaces an open one.
+    /// Opens a document, or replaces an open one. If an allocation fails, the documents are unchanged.
     pub fn put(&mut self, alloc: Global, uri: &str, document: Open) -> Result<(), AllocError>
         ensures ok { OnOk result
             (self.new ≡ map_of.insert self.old uri.now (open_document document)) }
@@ -83,7 +83,7 @@ impl OpenDocuments {
         Ok(())
     }
 
-    /// Closes a document.
+    /// Closes a document. If it isn't open, nothing happens.
     pub fn close(&mut self, uri: &str)
         ensures { self.new ≡ map_of.remove self.old uri.now }
     {

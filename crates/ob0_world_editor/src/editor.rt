@@ -1,8 +1,11 @@
-//! An editor of a server: its documents, its requests and the answers that it has.
+//! Models an editor that talks to a server: its documents, its requests and the answers that it has.
 //!
-//! An error leaves the editor unchanged: contents and copies are made first, the entry of the map is the last step that
-//! can fail, and the count of openings rises after it. `apply` drops its answer first, so an error leaves the editor
-//! without it. The text is a `String`; a store is made for a change or an edit, so no invariant on units is needed.
+//! An error leaves the editor unchanged. Contents and copies are made first, inserting into the map is the last step
+//! that can fail, and the count of openings rises after it. Only `apply` removes its answer first, so an error leaves
+//! the editor without that answer.
+//!
+//! A document's text is a `String`. A text store is made for each change or edit, so the editor needs no invariant on
+//! units.
 ghost use Rattle.std.specs.Prelude.{◌≡◌, IfOk, OnOk, OnErr, map, option_map, is_some, ◌<◌, ◌-◌, ◌^◌, string_bytes};
 ghost use Rattle.std.specs.Str.{chars};
 ghost use Rattle.ob0_text.specs.OpenDocuments.{change_in_text};
@@ -25,7 +28,7 @@ use ob0_text::{Change, Edit, Unit, Whole};
 use std::alloc::{AllocError, Global};
 use std::marker::Model;
 
-/// A request that was sent, and the state of the document then.
+/// A request that was sent, with the state that its document had then.
 #[derive(Drop)]
 pub struct SentAsk {
     pub ask: Ask,
@@ -35,14 +38,14 @@ pub struct SentAsk {
     pub version: u64,
 }
 
-/// An answer that the editor has.
+/// An answer that the editor has, with the number of its request.
 #[derive(Drop)]
 pub struct HeldAnswer {
     pub number: u64,
     pub edits: Vec<Edit>,
 }
 
-/// A document that gets a new text.
+/// A document's new text (`applied.after`), with its new version and its opening.
 #[derive(Drop)]
 struct Rewritten {
     applied: Applied,
@@ -50,7 +53,7 @@ struct Rewritten {
     opening: u64,
 }
 
-/// An editor.
+/// An editor, which counts positions in its unit.
 #[derive(Drop)]
 pub struct Editor {
     alloc: Global,
@@ -96,7 +99,8 @@ impl Editor {
         }
     }
 
-    /// Opens a document, and returns the content of the notification, or None if it is open already.
+    /// Opens a document, and returns the content of the notification. None if the document is open already. On an error
+    /// the editor is unchanged.
     pub fn open(&mut self, uri: &str, text: &str) -> Result<Option<Vec<u8>>, AllocError>
         requires { AreFew self.old }
         ensures ok { IfOk result (λ content. Acts
@@ -114,7 +118,8 @@ impl Editor {
         Ok(Some(content))
     }
 
-    /// Changes a document, and returns the content of the notification, or None if it isn't open.
+    /// Changes a document, and returns the content of the notification. None if the document isn't open. On an error
+    /// the editor is unchanged.
     pub fn change(&mut self, uri: &str, changes: &[Change]) -> Result<Option<Vec<u8>>, AllocError>
         requires { AreFew self.old }
         ensures ok { IfOk result (λ content. Acts
@@ -138,7 +143,8 @@ impl Editor {
         Ok(Some(content))
     }
 
-    /// Closes a document, and returns the content of the notification, or None if it isn't open.
+    /// Closes a document, and returns the content of the notification. None if the document isn't open. On an error the
+    /// editor is unchanged.
     pub fn close(&mut self, uri: &str) -> Result<Option<Vec<u8>>, AllocError>
         ensures ok { IfOk result
             (λ content. Acts (done_by self.old (close_document uri.now)) content self.new) }
@@ -152,7 +158,8 @@ impl Editor {
         Ok(Some(content))
     }
 
-    /// Requests this about a document, and returns the content of the request, or None if it isn't open.
+    /// Asks about a document, and returns the content of the request. None if the document isn't open. On an error the
+    /// editor is unchanged.
     pub fn ask(&mut self, uri: &str, ask: &Ask) -> Result<Option<Vec<u8>>, AllocError>
         requires { AreFew self.old }
         ensures ok { IfOk result (λ content. Acts
@@ -169,7 +176,7 @@ impl Editor {
         Ok(Some(content))
     }
 
-    /// Reads a content of the server. Returns None if it isn't a message for this editor.
+    /// Reads a content of the server, and changes nothing. None if it isn't a message for this editor.
     pub fn read(&self, content: &[u8]) -> Result<Option<Message>, AllocError>
         ensures { IfOk result
             (λ found. option_map message_of found ≡ understood self.now.requested content.now) }
@@ -177,7 +184,7 @@ impl Editor {
         read_message(self.alloc, self.requested.as_slice(), content)
     }
 
-    /// Keeps an answer if it has edits, and returns whether it has.
+    /// Keeps an answer if it has edits, and returns whether it has any. On an error the editor is unchanged.
     pub fn keep(&mut self, number: u64, edits: Vec<Edit>) -> Result<bool, AllocError>
         ensures kept { OnOk result
             (self.new ≡ reads self.old (answers number (replacements edits.items))) }
@@ -191,8 +198,9 @@ impl Editor {
         Ok(true)
     }
 
-    /// Makes the edits of answer `k` if the document is still the opening and the version that was asked about, and
-    /// returns the content of the notification. Otherwise, and on an error, the answer is dropped.
+    /// Makes the edits of answer `k`, and returns the applied edit with the content of the notification. If the
+    /// document's opening or version has changed since the request, or two edits share a character, nothing is made. In
+    /// every case, also on an error, the editor no longer has the answer.
     pub fn apply(&mut self, k: u64) -> Result<Applying, AllocError>
         requires { AreFew self.old }
         ensures ok { IfOk result (λ applying. ComesOf (done_by self.old (apply k))
@@ -210,7 +218,7 @@ impl Editor {
         }
     }
 
-    /// Drops answer `k`, and returns whether it was stored.
+    /// Discards answer `k`, and returns whether the editor had it.
     pub fn discard(&mut self, k: u64) -> bool
         ensures held { result ≡ is_some (kept_answer k self.old.answers) }
         ensures after { self.new ≡ without_answer self.old k }
@@ -228,8 +236,8 @@ impl Editor {
         Some(answer.edits)
     }
 
-    /// Returns the document of the request with these edits made, or None if it isn't the same opening and version any
-    /// more or the edits can't be made.
+    /// Returns the new text of the document of request `k`, with these edits made. None if its opening or version has
+    /// changed since the request, or if two edits share a character.
     fn rewrite(&self, k: u64, edits: &[Edit]) -> Result<Option<Rewritten>, AllocError>
         requires { AreFew self.now }
         ensures { IfOk result (λ rewritten.
@@ -247,7 +255,7 @@ impl Editor {
         self.rewrite_document(requested.uri.as_str(), document, edits)
     }
 
-    /// Returns a document with these edits made, or None if they can't be made.
+    /// Returns the new text of a document, with these edits made. None if two edits share a character.
     fn rewrite_document(
         &self,
         uri: &str,
@@ -273,7 +281,8 @@ impl Editor {
         }))
     }
 
-    /// Stores a document's new text, and returns the applied edit with the content of the notification.
+    /// Stores a document's new text, and returns the applied edit with the content of the notification. On an error the
+    /// editor is unchanged.
     fn make(&mut self, rewritten: Rewritten) -> Result<Applying, AllocError>
         requires { rewritten.version < 2 ^ 63 }
         ensures ok { IfOk result (λ applying. IsAppliedAs self.old rewritten applying self.new) }
@@ -286,7 +295,8 @@ impl Editor {
         })
     }
 
-    /// Stores a copy of a document's new text, and returns the content of the notification.
+    /// Stores a copy of a document's new text, and returns the content of the notification. On an error the editor is
+    /// unchanged.
     fn take_text(&mut self, rewritten: &Rewritten) -> Result<Vec<u8>, AllocError>
         requires { rewritten.now.version < 2 ^ 63 }
         ensures ok { IfOk result
@@ -303,7 +313,7 @@ impl Editor {
     }
 }
 
-/// Returns the request about a document, with the document's present state.
+/// Returns a request about a document, with copies of the ask, the uri and the document's present state.
 fn sent_ask(alloc: Global, ask: &Ask, uri: &str, document: &Open) -> Result<SentAsk, AllocError>
     ensures { IfOk result (λ sent. requested_of sent ≡ record {
       ask = ask_of ask.now;
@@ -325,7 +335,7 @@ fn sent_ask(alloc: Global, ask: &Ask, uri: &str, document: &Open) -> Result<Sent
     })
 }
 
-/// Returns the index of the first answer to ask `k`.
+/// Returns the index of the first answer to ask `k`. None if there is none.
 fn place_of(answers: &[HeldAnswer], k: u64) -> Option<usize>
     ensures { IsPlaceOf answers.now k result }
 {

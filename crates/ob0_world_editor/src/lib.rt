@@ -1,4 +1,5 @@
-//! The client: its documents, what it requests, the messages that it writes, and how it reads those of a server.
+//! A model of an LSP client: its documents, its requests, the messages that it writes, and how it reads a server's
+//! messages.
 #![tactic(auto)]
 
 mod applied;

@@ -1,8 +1,10 @@
-//! Objects of two and three members. A name is written as it is, so it is one that needs no escape.
+//! Writes JSON objects of two and three members. Names of members are written unescaped, so they must need no escape.
 //!
-//! The editor's messages are types that write themselves: an object of one member is a `OneMember`, one of two or three
-//! is written by one call of a function here, and the proof is `object_of` of that call's clause. So no `write` but
-//! those of four members and of the list of changes has a `?`, which costs most of a check.
+//! The editor's messages are types that write themselves. An object with one member is a `OneMember`. One with two or
+//! three members is written by one call of a function here, and its proof applies `object_of` to that call's clause.
+//!
+//! A `?` costs most of a check. So no `write` has one, except for objects with four members and for the list of
+//! changes.
 ghost use Rattle.std.specs.Prelude.{OnOk};
 ghost use Rattle.serde_json.specs.Data.{member, no_members};
 ghost use Rattle.ob0_rpc.specs.Appending.{AppendsMembers};

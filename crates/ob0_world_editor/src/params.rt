@@ -1,4 +1,4 @@
-//! The messages that an editor writes (LSP 3.17), as types.
+//! The JSON values of an editor's messages (LSP 3.17), as types that write themselves.
 ghost use Rattle.std.specs.Prelude.{◌≡◌, false, Some, None, OnOk, codes, map};
 ghost use Rattle.serde_json.specs.Data.{array, member, no_members, object};
 ghost use Rattle.serde_json.specs.View.{items_of};
@@ -13,7 +13,7 @@ use ob0_rpc::{
 use ob0_text::{Change, Indent, Position, Range};
 use std::alloc::AllocError;
 
-/// A request.
+/// A JSON-RPC request.
 #[derive(Drop)]
 pub struct Request<'a, I, P> {
     pub id: I,
@@ -36,7 +36,7 @@ impl<'a, I: WriteJson, P: WriteJson> WriteJson for Request<'a, I, P> {
     }
 }
 
-/// The document that is meant.
+/// A document's identifier: its uri.
 #[derive(Drop)]
 pub struct DocumentId<'a> {
     pub uri: &'a str,
@@ -51,7 +51,7 @@ impl<'a> WriteJson for DocumentId<'a> {
     }
 }
 
-/// The document that is meant, with its version.
+/// A document's identifier with its version.
 #[derive(Drop)]
 pub struct DocumentVersion<'a> {
     pub uri: &'a str,
@@ -66,7 +66,7 @@ impl<'a> WriteJson for DocumentVersion<'a> {
     }
 }
 
-/// A document with its text.
+/// A document that is opened, with its version and text.
 #[derive(Drop)]
 pub struct OpenedDocument<'a> {
     pub uri: &'a str,
@@ -86,7 +86,7 @@ impl<'a> WriteJson for OpenedDocument<'a> {
     }
 }
 
-/// A new text of a range, or of the whole document.
+/// The new text of a range, or of the whole document if there is no range.
 #[derive(Drop)]
 pub struct ContentChange<'a> {
     pub range: Option<Range>,
@@ -107,7 +107,7 @@ impl<'a> WriteJson for ContentChange<'a> {
     }
 }
 
-/// How a document was changed, change by change.
+/// The changes of a document, in order.
 #[derive(Drop)]
 pub struct ContentChanges<'a> {
     pub changes: &'a [Change],
@@ -137,7 +137,7 @@ fn write_changes(out: &mut Vec<u8>, changes: &[Change]) -> Result<(), AllocError
     Ok(())
 }
 
-/// That a document was changed to this version.
+/// The params of a `textDocument/didChange`: the changes, and the version that they make.
 #[derive(Drop)]
 pub struct DidChangeParams<'a, C> {
     pub changes: C,
@@ -160,7 +160,7 @@ impl<'a, C: WriteJson> WriteJson for DidChangeParams<'a, C> {
     }
 }
 
-/// A new name for what is at a position.
+/// The params of a rename: the new name, and the position of the old one.
 #[derive(Drop)]
 pub struct RenameParams<'a> {
     pub new_name: &'a str,
@@ -184,7 +184,7 @@ impl<'a> WriteJson for RenameParams<'a> {
     }
 }
 
-/// The actions at a position.
+/// The params of a request for the code actions at a position.
 #[derive(Drop)]
 pub struct CodeActionParams<'a> {
     pub position: Position,
@@ -216,7 +216,7 @@ impl<'a> WriteJson for CodeActionParams<'a> {
     }
 }
 
-/// What a level of indentation is.
+/// The width of a level of indentation, as formatting options.
 #[derive(Drop)]
 pub struct FormattingOptions {
     pub insert_spaces: bool,
@@ -238,7 +238,7 @@ impl WriteJson for FormattingOptions {
 }
 
 impl FormattingOptions {
-    /// The options for an indent.
+    /// Returns the formatting options for an indent.
     pub fn of(indent: Indent) -> FormattingOptions
         ensures { options_by result.insert_spaces result.tab_size ≡ options_value indent }
     {
@@ -255,7 +255,7 @@ impl FormattingOptions {
     }
 }
 
-/// The layout of a document.
+/// The params of a formatting request.
 #[derive(Drop)]
 pub struct FormattingParams<'a> {
     pub options: FormattingOptions,

@@ -1,4 +1,4 @@
-//! Reads the messages of a server.
+//! Reads a server's messages.
 ghost use Rattle.std.specs.Prelude.{◌≡◌, IfOk, codes, option_map, option_and_then, map};
 ghost use Rattle.serde_json.specs.Find.{get, as_number, as_i64, as_array};
 ghost use Rattle.serde_json.specs.View.{view, items_view};
@@ -24,14 +24,14 @@ pub enum Message {
         version: Option<i64>,
         empty: bool,
     },
-    /// The answer to an ask. A refusal has no edits.
+    /// The answer to the ask with this number. A refusal has no edits.
     Answered {
         number: u64,
         edits: Vec<Edit>,
     },
 }
 
-/// Reads a content when these asks were sent. Returns None if it isn't a message that a server sends for them.
+/// Reads a content, if these asks were sent. None if it is neither a publication nor the answer to one of the asks.
 pub fn read_message(
     alloc: Global,
     requested: &[SentAsk],
@@ -142,7 +142,7 @@ fn answer_number(answer: &Value) -> Option<u64>
     answer.get("id")?.as_u64()
 }
 
-/// Returns ask `number`. The first has number 1.
+/// Returns the ask with this number; the first has number 1. None if there is none.
 pub fn numbered_ask(requested: &[SentAsk], number: u64) -> Option<&SentAsk>
     ensures { option_map (λ a. requested_of a.now) result
         ≡ request_numbered (map requested_of requested.now) number }
@@ -158,7 +158,7 @@ pub fn numbered_ask(requested: &[SentAsk], number: u64) -> Option<&SentAsk>
     }
 }
 
-/// Returns the edits in the answer to an ask, or none if it has no readable edits.
+/// Returns the edits in the answer to an ask. The list is empty if the answer has no edits that can be read.
 fn read_edits(alloc: Global, ask: &Ask, answer: &Value) -> Result<Vec<Edit>, AllocError>
     ensures { IfOk result
         (λ edits. replacements edits.items ≡ edits_for (ask_of ask.now) (view answer.now)) }
@@ -193,7 +193,7 @@ fn answered_values<'v>(ask: &Ask, answer: &'v Value) -> Option<&'v Vec<Value>>
     }
 }
 
-/// Returns the edits of the first document of a WorkspaceEdit.
+/// Returns the list of edits of the first document in a WorkspaceEdit. None if there is none.
 fn workspace_values(edit: &Value) -> Option<&Vec<Value>>
     ensures { option_map (λ v. items_view v.now.items) result ≡ workspace_items (view edit.now) }
 {
@@ -201,7 +201,7 @@ fn workspace_values(edit: &Value) -> Option<&Vec<Value>>
     first.get("edits")?.as_array()
 }
 
-/// Returns the edits of the action with this title.
+/// Returns the list of edits of the first action with this title. None if there is none.
 fn action_values<'v>(actions: &'v Value, title: &str) -> Option<&'v Vec<Value>>
     ensures { option_map (λ v. items_view v.now.items) result
         ≡ action_items title.now (view actions.now) }
@@ -222,7 +222,7 @@ fn action_with_title<'v>(actions: &'v [Value], title: &str) -> Option<&'v Value>
     None
 }
 
-/// Returns whether a value has a member of this name with this text.
+/// Returns true if a JSON value has a member of this name with this text.
 fn has_text(value: &Value, name: &str, text: &str) -> bool
     ensures { result ≡ is_text text.now (text_member name.now (view value.now)) }
 {
@@ -234,7 +234,7 @@ fn has_text(value: &Value, name: &str, text: &str) -> bool
 
 // ---- edits
 
-/// Returns the edits of a list, or None if one of them can't be read.
+/// Reads all edits of a list. None if one of them can't be read.
 fn edits_of(alloc: Global, values: &[Value]) -> Result<Option<Vec<Edit>>, AllocError>
     ensures { IfOk result (λ found. option_map (λ edits. replacements edits.items) found
         ≡ edits_in (items_view values.now)) }

@@ -9,7 +9,7 @@ ghost use Rattle.ob0_world_rules.specs.Edited.{replacements};
 use ob0_text::{Change, Edit, PatchFault, TextStore, Unit, patch};
 use std::alloc::{AllocError, Global};
 
-/// The text after changes, each made of the result of the one before.
+/// Returns the text after changes, each made in the result of the one before. Positions count in this unit.
 pub fn apply_changes<T: TextStore>(
     alloc: Global,
     unit: Unit,
@@ -46,7 +46,7 @@ fn make_change<T: TextStore>(
     Ok(())
 }
 
-/// The text with all edits made; None where two of them share a character.
+/// Returns the text with all edits made. None if two of them share a character.
 pub fn apply_edits<T: TextStore>(
     alloc: Global,
     unit: Unit,

@@ -1,4 +1,4 @@
-//! The notifications and requests of an editor.
+//! Writes the notifications and requests of an editor.
 ghost use Rattle.std.specs.Prelude.{◌≤◌, ◌<◌, ◌^◌, ◌∷◌, [], pos, IfOk, map};
 ghost use Rattle.std.specs.Str.{chars};
 ghost use Rattle.serde_json.specs.Data.{depth};
@@ -18,7 +18,7 @@ use ob0_rpc::{OneMember, WriteJson, content_of, notify};
 use ob0_text::Change;
 use std::alloc::{AllocError, Global};
 
-/// Notifies that a document was opened.
+/// Returns the content of the notification that a document was opened.
 pub fn did_open(alloc: Global, uri: &str, version: u64, text: &str) -> Result<Vec<u8>, AllocError>
     requires { version < 2 ^ 63 }
     ensures { IfOk result
@@ -29,7 +29,7 @@ pub fn did_open(alloc: Global, uri: &str, version: u64, text: &str) -> Result<Ve
     notify(alloc, "textDocument/didOpen", &OneMember { key, value })
 }
 
-/// Notifies how a document was changed.
+/// Returns the content of the notification that a document was changed by these changes.
 pub fn did_change(
     alloc: Global,
     uri: &str,
@@ -49,7 +49,7 @@ pub fn did_change(
     )
 }
 
-/// Notifies that a document has this text now.
+/// Returns the content of the notification that a document was changed to this whole text.
 pub fn did_rewrite(
     alloc: Global,
     uri: &str,
@@ -70,7 +70,7 @@ pub fn did_rewrite(
     )
 }
 
-/// Notifies that a document was closed.
+/// Returns the content of the notification that a document was closed.
 pub fn did_close(alloc: Global, uri: &str) -> Result<Vec<u8>, AllocError>
     ensures { IfOk result (λ content. IsNote (Closed uri.now) content.items) }
 {
@@ -79,7 +79,8 @@ pub fn did_close(alloc: Global, uri: &str) -> Result<Vec<u8>, AllocError>
     notify(alloc, "textDocument/didClose", &OneMember { key, value })
 }
 
-/// Requests this of a document; both ways of inlining request the actions at their place.
+/// Returns the content of the request for an ask about a document. Both ways of inlining request the code actions at
+/// their position.
 pub fn request(alloc: Global, number: u64, uri: &str, ask: &Ask) -> Result<Vec<u8>, AllocError>
     ensures { IfOk result (λ content. IsRequest number uri.now (ask_of ask.now) content.items) }
 {

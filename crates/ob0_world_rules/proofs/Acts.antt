@@ -1,4 +1,5 @@
--- What an act of the editor leaves, by cases: to prove something of all of them it is enough to prove it of each of these seven.
+-- Lists the possible results of an act of the editor. A claim that holds of each of these seven cases holds of every
+-- act.
 use Rattle.std.proofs.Common.{◌≡◌, ℕ, cond, List, [], ◌∷◌, refl, sym, subst}
 use Rattle.std.specs.Prelude.{Option, Some, None, is_some, unwrap_or, option_and_then}
 use Rattle.std.proofs.lemmas.Option.{same_Some, none-some}
@@ -9,7 +10,7 @@ use Rattle.ob0_world_rules.specs.ClientAndServer.{Open, SentAsk, Editor, request
 use Rattle.ob0_world_rules.specs.Editing.{Act, open_document, change_document, close_document, ask_about, apply, discard, Done, stays, opens, rewrites, closes, asks, kept_answer, without_answer, if_same, applies, done_by}
 use Rattle.ob0_world_rules.proofs.SameDocument.{Same, same_from}
 
--- an edit that is applied to a document
+-- the edit that gives the document d the text `text`
 abbrev pub edit_of : List ℕ → Open → List ℕ → Applied
 edit_of uri d text = record { uri = uri; before = d.text; after = text }
 
@@ -23,12 +24,12 @@ pub record OfEach (e : Editor) (P : Done → Type 0) : Type 0 where
       → P (rewrites (without_answer e k) a.uri d text (whole_text text ∷ []) (edit_of a.uri d text ∷ []))
   pub dropped : (k : ℕ) → P (stays (without_answer e k))
 
--- a step after another gives something only where both do
+-- If the composition of two partial functions has a result, both have one.
 pub then_some : {A B : Type 0} (f : A → Option B) (o : Option A) (y : B) → option_and_then f o ≡ Some y → (x : A) × (o ≡ Some x) × (f x ≡ Some y)
 then_some f None y h = absurd (none-some y h)
 then_some f (Some x) y h = (x, refl, h)
 
--- what an answer makes of its document, where it makes anything
+-- the result of applying answer k, if its edits can be made
 pub record Applies (e : Editor) (k : ℕ) (done : Done) : Type 0 where
   pub edits : List Replacement
   pub requested : SentAsk

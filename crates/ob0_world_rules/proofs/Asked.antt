@@ -1,14 +1,14 @@
--- Proves that a fact about the text of a numbered ask holds after further asks.
+-- Proves that a fact about the text of a numbered request still holds after further requests.
 use Rattle.std.proofs.Common.{◌≡◌, ℕ, zero, suc, List, [], ◌∷◌, ◌++◌, length, refl}
 use Rattle.std.specs.Prelude.{Some, slice_get}
 use Rattle.std.proofs.lemmas.Option.{none-some}
 use Rattle.ob0_world_rules.specs.ClientAndServer.{SentAsk, request_numbered}
 
--- each ask has the same number in the other list
+-- holds if each request of the first list has the same number in the second list
 abbrev pub Later : List SentAsk → List SentAsk → Type 0
 Later asks now = (k : ℕ) (a : SentAsk) → request_numbered asks k ≡ Some a → request_numbered now k ≡ Some a
 
--- this holds of the text that ask k was about
+-- states that P holds of the text that request k was about
 pub record Known (asks : List SentAsk) (k : ℕ) (P : List ℕ → Type 0) : Type 0 where
   pub requested : SentAsk
   pub is : request_numbered asks k ≡ Some requested

@@ -1,5 +1,6 @@
--- A list of events has a course: what the editor does is a function, and so is what it takes; the server publishes a
--- list that is empty or isn't, as the text is a module or isn't, and answers what has answers.
+-- Proves that a list of events can't be without a course if its asks have answers. The results of the editor's acts are
+-- functions. The server publishes a list that is empty or not, according to whether the text is a module, and an ask
+-- has an answer.
 use Rattle.std.proofs.Common.{◌≡◌, Bool, true, false, cond, ℕ, List, [], ◌∷◌, ◌++◌, refl, sym, subst}
 use Rattle.std.specs.Prelude.{⊤, All, Option, Some, None, is_some, unwrap_or, option_and_then}
 use Rattle.std.proofs.lemmas.List.Elements.{All-nil, All-push, All-head, All-tail, All-append}
@@ -15,9 +16,9 @@ use Rattle.ob0_world_rules.specs.Happens.{Event, does, serve, take_message, afte
 use Rattle.ob0_world_rules.specs.Laws.{HasAnswers, IsAnswerable, ACourseFits}
 use Rattle.ob0_world_rules.proofs.Acts.{applied_so}
 
--- ---- what is asked has answers
+-- ---- asks have answers
 
--- of a message
+-- holds if the message isn't a request, or is a request that has answers
 abbrev CanBeReplied : ToServer → Type 0
 CanBeReplied (notifies note) = ⊤
 CanBeReplied (requests k uri ask) = HasAnswers ask
@@ -28,7 +29,7 @@ none_sent = All-nil CanBeReplied
 note_sent : (note : DocumentEvent) → All CanBeReplied (notifies note ∷ [])
 note_sent note = All-push CanBeReplied [] (notifies note) none_sent tt
 
--- of what an act sends
+-- Each message that an act sends can be replied to if the act's ask has answers.
 act_sends : (e : Editor) (act : Act) → IsAnswerable (does act) → All CanBeReplied (done_by e act).sent
 act_sends e (open_document uri text) h = go (is_some (open_at e uri))
   where

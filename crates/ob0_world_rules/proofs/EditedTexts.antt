@@ -1,4 +1,4 @@
--- The edits of the code, made of a text.
+-- Proves that the code's edits, read as replacements, make the text that they patch.
 use Rattle.std.proofs.Common.{ap}
 use mathlib.Core.List.{map-map}
 use Rattle.ob0_text.specs.Units.{width_of}

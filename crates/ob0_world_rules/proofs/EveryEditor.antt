@@ -1,4 +1,5 @@
--- What holds with every editor that keeps ob0's rules. Other messages apart, its moves keep what the model's acts keep.
+-- Proves the guarantees for every editor that keeps ob0's rules. Apart from other messages, its moves keep the
+-- invariant of the model's acts.
 use Rattle.std.proofs.Common.{◌≡◌, ◌∙◌, ℕ, suc, ◌+◌, cond, List, [], ◌∷◌, ◌++◌, map, length, append-nil, append_assoc, refl, sym, ap, subst}
 use Rattle.std.specs.Prelude.{pos, All, Option, Some, None, option_map}
 use Rattle.std.specs.FinMap as map_of
@@ -39,9 +40,10 @@ pub others_push : {A : Type 0} (queue : List (Option A)) (more : List A) → wit
 others_push queue more = others_append queue (map Some more) ∙ ap (λ ms. without_others queue ++ ms) (others_none more)
 
 module _ (unit : Unit) where
-  -- ---- what every turn keeps
+  -- ---- the invariant of every turn
 
-  -- what is kept of the model's state, and the publications are made for the announced documents, in order
+  -- states the invariant: the model's state is `Kept`, and the publications are made for the announced documents, in
+  -- order
   record Good (w : EditorAndServer) : Type 0 where
     kept : Kept unit (as_model w)
     latest : AreLatest unit w.held w.made
@@ -51,7 +53,7 @@ module _ (unit : Unit) where
     made_of : AreMadeOf w.made published
     pending : Pending w.held (without_others w.to_server) waiting
 
-  -- a move, as the model has it
+  -- A move in the model is the same move without the other messages.
   moved_so : (w : EditorAndServer) (done : Done) (announced : List Announced) → after_act (as_model w) done ≡ as_model (after_move w done announced)
   moved_so w done announced i =
       record (as_model w) {
@@ -60,7 +62,7 @@ module _ (unit : Unit) where
         applied = w.applied ++ done.applied;
       }
 
-  -- a move that sends nothing
+  -- A move that sends no message keeps the invariant.
   none_sent : (w : EditorAndServer) (e : Editor) (applied : List Applied) → Good w → Kept unit (after_act (as_model w) (record { editor = e; sent = []; applied = applied })) → Good (after_move w (record { editor = e; sent = []; applied = applied }) [])
   none_sent w e applied good kept =
       let done : Done = record { editor = e; sent = []; applied = applied } in
@@ -74,7 +76,7 @@ module _ (unit : Unit) where
         pending = subst (λ q. Pending w.held q good.waiting) (sym (others_push w.to_server [] ∙ append-nil (without_others w.to_server))) good.pending;
       }
 
-  -- and one that sends a message
+  -- A move that sends one message keeps the invariant.
   one_sent : (w : EditorAndServer) (e : Editor) (m : ToServer) (announced : List Announced) (applied : List Applied) → Good w → Kept unit (after_act (as_model w) (record { editor = e; sent = m ∷ []; applied = applied }))
       → ((held : OpenDocuments) → ((uri : List ℕ) → document_at (after_message held m) uri ≡ option_map as_open (open_at e uri)) → Awaits held m announced)
       → map versioned_uri announced ≡ versions_announced m
@@ -97,7 +99,7 @@ module _ (unit : Unit) where
 
   -- ---- the editor's moves
 
-  -- a document that is put in is there
+  -- A document is found under the uri under which it was inserted.
   put_there : (held : OpenDocuments) (e : Editor) (uri : List ℕ) (d : Open) (m : ToServer) → ((q : List ℕ) → document_at (after_message held m) q ≡ option_map as_open (open_at (with_document e uri d) q)) → document_at (after_message held m) uri ≡ Some (as_open d)
   put_there held e uri d m mirror = mirror uri ∙ ap (option_map as_open) (get_put e.documents uri d uri ∙ ap (λ b. cond b (Some d) (map_of.get e.documents uri)) (uri_itself uri))
 
@@ -184,7 +186,7 @@ module _ (unit : Unit) where
 
   -- ---- the other turns
 
-  -- where the model's state is the same, and nothing is announced or made
+  -- A turn keeps the invariant if the model's state is the same and nothing is announced.
   unmoved : (w new : EditorAndServer) → Good w → as_model w ≡ as_model new → w.announced ≡ new.announced → Good new
   unmoved w new good same announced =
       record {

@@ -1,4 +1,4 @@
--- Each move of an editor and each turn of the server keeps what client and server keep.
+-- Proves that each move of an editor and each turn of the server keeps the invariant (`Kept`).
 use Rattle.std.proofs.Common.{◌≡◌, ◌∙◌, ℕ, suc, ◌+◌, Bool, true, false, cond, List, [], ◌∷◌, ◌++◌, length, refl, sym, ap, subst, inl, inr}
 use Rattle.std.specs.Prelude.{ℤ, pos, fold, All, Option, Some, None, is_some, option_map, ◌==◌}
 use Rattle.std.specs.Str.{bytes_eq}
@@ -29,7 +29,7 @@ use Rattle.ob0_world_rules.proofs.Asked.{Known, numbered_push, slice_get_last}
 use Rattle.ob0_world_rules.proofs.KeptRuns.{answer_keeps}
 use Rattle.ob0_world_rules.proofs.Keeping.{Fits, AnswerFits, HeldFits, HasText, AsksSee, Kept, message_unit, acts_kept, put_mirrors, remove_mirrors, answers_kept}
 
--- messages that say nothing about documents leave the server's as they are
+-- Messages without a notification don't change the server's documents.
 quiet_stays : (held : OpenDocuments) (q : List ToServer) → notes_among q ≡ [] → fold after_message held q ≡ held
 quiet_stays held [] quiet = refl
 quiet_stays held (notifies note ∷ q) quiet = absurd (cc)
@@ -58,17 +58,17 @@ module _ (unit : Unit) where
       } in
       acts_kept unit w (asks w.editor uri ask d) kept (numbered_push w.editor.requested (a ∷ [])) refl refl kept.mirror (known, tt) (All-nil KeepsTheRun)
 
-  -- nothing is sent
+  -- An act that sends nothing and changes nothing keeps the invariant.
   pub still_kept : (w : ClientAndServer) → Kept unit w → Kept unit (after_act w (stays w.editor))
   still_kept w kept =
       acts_kept unit w (stays w.editor) kept (λ k a is. is) refl refl kept.mirror tt (All-nil KeepsTheRun)
 
-  -- a message that the editor has taken is no more in the queue
+  -- Taking the first message out of the editor's queue keeps the invariant.
   rest_kept : (w : ClientAndServer) (rest : List ToEditor) → Kept unit w → All (AnswerFits unit w.editor.requested) rest → Kept unit (record w { to_editor = rest })
   rest_kept w rest kept fit =
       record { counts = kept.counts; holds = kept.holds; mirror = kept.mirror; requested = kept.requested; answered = fit; answers_held = kept.answers_held; applied = kept.applied; made = kept.made }
 
-  -- an answer with edits fits the text of its request
+  -- An answer with edits keeps the run of its request's text.
   with_edits : (asked : List SentAsk) (k : ℕ) (edit : Replacement) (edits : List Replacement) → Known asked k (Fits unit (edit ∷ edits)) → Known asked k (λ text. EditsPreserveRun unit text (edit ∷ edits))
   with_edits asked k edit edits known = record { requested = known.requested; is = known.is; holds = go known.requested.text known.holds }
     where
@@ -104,7 +104,7 @@ module _ (unit : Unit) where
 
   -- ---- the server's events
 
-  -- the last publication for each held document was made for what is held
+  -- holds if the last publication for each document in step was made for its version and text
   abbrev pub AreLatest : OpenDocuments → List Made → Type 0
   AreLatest held made = (uri : List ℕ) (version : ℤ) (text : List ℕ) → document_at held uri ≡ Some (InStep version text) → IsMadeFor version text (last_publication uri made)
 
@@ -119,7 +119,7 @@ module _ (unit : Unit) where
       let itself : bytes_eq uri q ≡ true = subst (λ x. bytes_eq uri x ≡ true) (sym (same_uri q uri same)) (uri_itself uri) in
       both_answers itself differ
 
-  -- the document that is held under a uri, and it alone, was published again
+  -- The publications are the latest if they are for the document with one uri and for all other documents.
   others_and_this : (held : OpenDocuments) (uri : List ℕ) (made : List Made) → Others held uri made
       → ((q : List ℕ) (version : ℤ) (text : List ℕ) → uri ≡ q → document_at held q ≡ Some (InStep version text) → IsMadeFor version text (last_publication q made)) → AreLatest held made
   others_and_this held uri made others this q version text at = go (bytes_eq uri q) refl
@@ -139,7 +139,7 @@ module _ (unit : Unit) where
           (cc, cc)
       go false is = others q version text (subst (λ u. bytes_eq u q ≡ false) named is) found_at
 
-  -- what is sent fits, and the publications among it are right and the latest
+  -- states that the messages fit their requests, and that the publications among them are right and the latest
   record Sound (asked : List SentAsk) (held : OpenDocuments) (said : List ToEditor) (made more : List Made) : Type 0 where
     fit : All (AnswerFits unit asked) said
     right : All IsRight more
@@ -186,7 +186,7 @@ module _ (unit : Unit) where
       go None is = subst (λ m. Others (record { unit = held.unit; by_uri = m }) uri made) (sym (updated-none held.by_uri uri f is)) (λ q version text differ at. now q version text at)
       go (Some d) is = subst (λ m. Others (record { unit = held.unit; by_uri = m }) uri made) (sym (updated-some held.by_uri uri f d is)) (put_others held uri (f d) made now)
 
-  -- a document that is lost is in step no more
+  -- After a document is lost, the publications for the other documents are still the latest.
   lost_latest : (held : OpenDocuments) (uri : List ℕ) (made : List Made) → AreLatest held made → AreLatest (after_event held (Lost uri)) made
   lost_latest held uri made now = go (document_at held uri) refl
     where
@@ -225,13 +225,13 @@ module _ (unit : Unit) where
         now = quiet.now;
       }
 
-  -- an ask is answered for the text that it was about
+  -- An answer to a request fits the text that the request was about.
   ask_fits : (asked : List SentAsk) (held : OpenDocuments) (k : ℕ) (uri : List ℕ) (ask : Ask) (edits : List Replacement) → held.unit ≡ unit → Known asked k (HasText held uri) → IsAnswer held.unit (document_at held uri) ask edits
       → Known asked k (Fits unit edits)
   ask_fits asked held k uri ask edits same_unit known may =
       record { requested = known.requested; is = known.is; holds = answer_keeps unit known.requested.text ask edits (subst (λ o. IsAnswer unit o ask edits) known.holds.1 (subst (λ u. IsAnswer u (document_at held uri) ask edits) same_unit may)) }
 
-  -- the server, as it takes this message, meets the text of the request
+  -- holds if the server has the text of the request when it takes this message
   abbrev Meets : List SentAsk → OpenDocuments → ToServer → Type 0
   Meets asked held m = AsksSee asked held (m ∷ [])
 
@@ -248,7 +248,8 @@ module _ (unit : Unit) where
   abbrev pub Both : ClientAndServer → Type 0
   Both w = Kept unit w × AreLatest w.held w.made
 
-  -- the first message, and those after it
+  -- If the server will have the text of each request in a queue, that holds of the first message, and later of the
+  -- rest.
   sees_first : (e : List SentAsk) (held : OpenDocuments) (m : ToServer) (rest : List ToServer) → AsksSee e held (m ∷ rest) → Meets e held m × AsksSee e (after_message held m) rest
   sees_first e held (notifies note) rest h = (tt, h)
   sees_first e held (requests k uri ask) rest h = ((h.0, tt), h.1)
@@ -275,7 +276,7 @@ module _ (unit : Unit) where
 
   -- ---- all events
 
-  -- the server is as it was
+  -- When the editor takes a message, the server's documents and publications don't change.
   pub take_unmoved : (w : ClientAndServer) (queue : List ToEditor) → ((after_taking w queue).held ≡ w.held) × ((after_taking w queue).made ≡ w.made)
   take_unmoved w [] = (refl, refl)
   take_unmoved w (m ∷ rest) = (refl, refl)

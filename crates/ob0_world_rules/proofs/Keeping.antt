@@ -1,4 +1,4 @@
--- What client and server keep, whatever happens.
+-- Defines the invariant of client and server (`Kept`), and proves that it is kept when the editor acts.
 use Rattle.std.proofs.Common.{◌≡◌, ◌∙◌, ℕ, Bool, true, false, cond, List, [], ◌∷◌, ◌++◌, refl, sym, ap, subst}
 use Rattle.std.specs.Prelude.{◌⊎◌, ⊤, ℤ, pos, fold, All, Some, None, option_map, ◌==◌}
 use Rattle.std.specs.Str.{bytes_eq}
@@ -20,24 +20,24 @@ use Rattle.ob0_world_rules.specs.Laws.{EditsPreserveRun}
 use Rattle.ob0_world_rules.proofs.UriLaws.{get_put, get_removed, mapped_choice}
 use Rattle.ob0_world_rules.proofs.Asked.{Known, Later, still_known}
 
--- no edits, or edits that keep the run of this text
+-- holds if there are no edits, or the edits keep the run of this text
 abbrev pub Fits : Unit → List Replacement → List ℕ → Type 0
 Fits unit edits text = (edits ≡ []) ⊎ EditsPreserveRun unit text edits
 
--- an answer on its way fits the text of its request
+-- holds if an answer in the queue to the editor fits the text of its request
 abbrev pub AnswerFits : Unit → List SentAsk → ToEditor → Type 0
 AnswerFits unit asked (publishes uri version empty) = ⊤
 AnswerFits unit asked (answers k edits) = Known asked k (Fits unit edits)
 
--- and so does an answer that the editor has, with edits
+-- holds if an answer that the editor has keeps the run of the text of its request
 abbrev pub HeldFits : Unit → List SentAsk → Answer → Type 0
 HeldFits unit asked a = Known asked a.number (λ text. EditsPreserveRun unit text a.edits)
 
--- the document is open in the server with this text
+-- holds if the document is open and in step in the server with this text
 abbrev pub HasText : OpenDocuments → List ℕ → List ℕ → Type 0
 HasText held uri text = (version : ℤ) × (document_at held uri ≡ Some (InStep version text))
 
--- the server, as it takes an ask, will have the text of the request
+-- holds if the server, when it takes each request of a queue, will have the text that the request was about
 abbrev pub AsksSee : List SentAsk → OpenDocuments → List ToServer → Type 0
 AsksSee asked held [] = ⊤
 AsksSee asked held (notifies note ∷ rest) = AsksSee asked (after_event held note) rest
@@ -111,7 +111,7 @@ acts_kept unit w done kept later same_unit same mirror see keeps =
       made = kept.made;
     }
 
--- a document is put in at client and server
+-- Inserting a document at client and server keeps the mirror.
 put_mirror : (w : ClientAndServer) (uri : List ℕ) (d : Open) → Mirrors w → (q : List ℕ)
     → map_of.get (map_of.insert (will_have w).by_uri uri (as_open d)) q ≡ option_map as_open (map_of.get (map_of.insert w.editor.documents uri d) q)
 put_mirror w uri d mirror q =
@@ -130,7 +130,7 @@ remove_mirrors w uri mirror q =
     ∙ sym (mapped_choice as_open (bytes_eq q uri) None (map_of.get w.editor.documents q))
     ∙ ap (option_map as_open) (sym (get_removed w.editor.documents uri q))
 
--- a document that gets a new text is changed so at the server
+-- Changing a document's text at client and server keeps the mirror.
 change_mirrors : (w : ClientAndServer) (uri : List ℕ) (d new : Open) (how : List TextChange) → Mirrors w → (will_have w).unit ≡ w.editor.unit → open_at w.editor uri ≡ Some d
     → after_changes w.editor.unit (Some d.text) how ≡ Some new.text → (q : List ℕ)
     → document_at (after_event (will_have w) (Changed uri (pos new.version) how)) q ≡ option_map as_open (map_of.get (map_of.insert w.editor.documents uri new) q)
@@ -140,7 +140,7 @@ change_mirrors w uri d new how mirror same_unit was_open is q =
     ∙ ap (λ text. map_of.get (map_of.insert (will_have w).by_uri uri (document (pos new.version) text)) q) (ap (λ u. after_changes u (Some d.text) how) same_unit ∙ is)
     ∙ put_mirror w uri new mirror q
 
--- an open document gets another version and text, and the server is sent how
+-- Giving an open document another version and text keeps the invariant if the server is sent the changes.
 pub revise_kept : (unit : Unit) (w : ClientAndServer) (uri : List ℕ) (d new : Open) (how : List TextChange) (applied : List Applied) → Kept unit w → open_at w.editor uri ≡ Some d
     → after_changes w.editor.unit (Some d.text) how ≡ Some new.text → All KeepsTheRun applied
     → Kept unit (after_act w (record { editor = record w.editor { documents = map_of.insert w.editor.documents uri new }; sent = notifies (Changed uri (pos new.version) how) ∷ []; applied = applied }))
@@ -150,7 +150,7 @@ revise_kept unit w uri d new how applied kept was_open is keeps =
 
 -- ---- answers in the editor
 
--- the editor holds other answers, and takes them from the queue
+-- Replacing the editor's answers and its queue keeps the invariant if the new answers and the new queue fit.
 pub answers_kept : (unit : Unit) (w : ClientAndServer) (list : List Answer) (queue : List ToEditor) → Kept unit w → All (HeldFits unit w.editor.requested) list → All (AnswerFits unit w.editor.requested) queue
     → Kept unit (record w { editor = record w.editor { answers = list }; to_editor = queue })
 answers_kept unit w list queue kept held fit =

@@ -1,4 +1,4 @@
--- What is returned keeps the run.
+-- Proves that the edits of an answer keep the run of the text.
 use Rattle.std.proofs.Common.{◌≡◌, ◌∙◌, ℕ, List, [], sym, subst, inl, inr}
 use Rattle.std.specs.Prelude.{◌⊎◌, Some}
 use Rattle.ob0_text.specs.declared.edits.Edit.{Edit}
@@ -15,7 +15,7 @@ use Rattle.ob0_world_rules.specs.Laws.{EditsPreserveRun}
 use Rattle.ob0_world_rules.proofs.ModuleTexts.{well_typed_text}
 use Rattle.ob0_world_rules.proofs.Trees.{same_run}
 
--- edits that leave a text which runs as before
+-- Edits preserve the run if the text that they make runs as before.
 runs_kept : (unit : Unit) (text after : List ℕ) (edits : List Edit) → patched (width_of unit) text edits ≡ Some after → RunsAsBefore (utf8 text) (utf8 after) → EditsPreserveRun unit text (replacements edits)
 runs_kept unit text after edits made runs =
     record {
@@ -32,7 +32,7 @@ edits_keep_the_run unit text (inline_here position) edits (list, found, is) = su
 edits_keep_the_run unit text (inline_all position) edits (list, found, is) = subst (λ es. EditsPreserveRun unit text (replacements es)) (sym is) (runs_kept unit text found.after list.items found.made found.runs)
 edits_keep_the_run unit text (format indent) edits found = runs_kept unit text found.after edits found.made found.runs
 
--- what is answered about a text has no edits, or they keep its run
+-- An answer about a text has no edits, or edits that preserve its run.
 pub answer_keeps : (unit : Unit) (text : List ℕ) (ask : Ask) (given : List Replacement) → AnswersFor unit text ask given → (given ≡ []) ⊎ EditsPreserveRun unit text given
 answer_keeps unit text ask given (inl (edits, found, is)) = inr (subst (EditsPreserveRun unit text) (sym is) (edits_keep_the_run unit text ask edits found))
 answer_keeps unit text ask given (inr (why, none)) = inl none

@@ -1,4 +1,4 @@
--- The last publication for a uri, after one more.
+-- Proves which publication is the last for a uri after one more publication.
 use Rattle.std.proofs.Common.{◌≡◌, ℕ, ℤ, cond, List, [], ◌∷◌, ◌++◌}
 use Rattle.std.specs.Prelude.{Option, Some, None, MatchOption}
 use Rattle.std.specs.Str.{bytes_eq}
@@ -6,7 +6,7 @@ use Rattle.std.proofs.lemmas.List.Sums.{fold-append}
 use Rattle.ob0_world_rules.specs.ClientAndServer.{Made}
 use Rattle.ob0_world_rules.specs.Headline.{last_publication}
 
--- there is one, and it was made for this version and this text
+-- holds if there is a publication and it was made for this version and this text
 abbrev pub IsMadeFor : ℤ → List ℕ → Option Made → Type 0
 IsMadeFor version text o = MatchOption o ⊥ (λ m. (m.version ≡ version) × (m.text ≡ text))
 

@@ -1,7 +1,7 @@
--- Each publication was made for a text that the editor's document had at that version: what the server holds, now and after each message
--- that waits for it, the editor had before.
--- A message that the editor sends adds what the mirror says at that moment; a server's turn publishes what it then
--- holds.
+-- Proves that each publication was made for a text that the editor's document had at that version.
+-- The invariant: the editor had each document that the server has now or will have after any message that waits for it.
+-- The mirror gives it for a message that the editor sends. When the server takes a message, it publishes the document
+-- that it then has.
 use Rattle.std.proofs.Common.{◌≡◌, ◌∙◌, ℕ, true, List, [], ◌∷◌, ◌++◌, append-nil, append_assoc, refl, sym, ap, subst}
 use Rattle.std.specs.Prelude.{⊤, ℤ, pos, fold, All, Option, Some, None, option_map}
 use Rattle.std.proofs.lemmas.Option.{same_Some, none-some}
@@ -18,7 +18,7 @@ use Rattle.ob0_world_rules.specs.Headline.{WasMadeFor}
 use Rattle.ob0_world_rules.proofs.Acts.{of_each}
 use Rattle.ob0_world_rules.proofs.ModelEditor.{server_mirrors}
 
--- one event more at the end
+-- A course with one more event at its end is a course.
 pub course_push : (w : ClientAndServer) (events : List Event) (between : ClientAndServer) (e : Event) (new : ClientAndServer) → Course w events between → Happens between e new → Course w (events ++ e ∷ []) new
 course_push w [] between e new run happens = (new, subst (λ x. Happens x e new) run happens, refl)
 course_push w (x ∷ events) between e new (mid, first, rest) happens = (mid, first, course_push mid events between e new rest happens)
@@ -30,7 +30,8 @@ same_text : (v w : ℤ) (t u : List ℕ) → InStep v t ≡ InStep w u → t ≡
 same_text v w t u h = cc
 
 module _ (unit : Unit) where
-  -- a publication, of which nothing but uri, version and text counts here
+  -- states that the editor had a document with this uri, version and text; the rest of a publication doesn't matter
+  -- here
   abbrev WasOpen : List Event → List ℕ → ℤ → List ℕ → Type 0
   WasOpen events uri version text = WasMadeFor unit events (record { uri = uri; version = version; text = text; empty = true })
 
@@ -48,7 +49,7 @@ module _ (unit : Unit) where
         text_is = was.text_is;
       }
 
-  -- what was open once was so later on
+  -- A document that was open after some events was also open in the course of more events.
   was_open_more : (events more : List Event) (m : Made) → WasMadeFor unit events m → WasMadeFor unit (events ++ more) m
   was_open_more events more m was =
       record {
@@ -66,7 +67,7 @@ module _ (unit : Unit) where
   abbrev WereOpenIn : List Event → OpenDocuments → Type 0
   WereOpenIn events held = (uri : List ℕ) (version : ℤ) (text : List ℕ) → document_at held uri ≡ Some (InStep version text) → WasOpen events uri version text
 
-  -- what is held now, and after each message that waits
+  -- holds if the editor had the documents that the server has now, and after each message that waits
   abbrev WereOpenBy : List Event → OpenDocuments → List ToServer → Type 0
   WereOpenBy events held [] = WereOpenIn events held
   WereOpenBy events held (m ∷ queue) = WereOpenIn events held × WereOpenBy events (after_message held m) queue
@@ -86,7 +87,7 @@ module _ (unit : Unit) where
   made_more : (events more : List Event) (made : List Made) → All (WasMadeFor unit events) made → All (WasMadeFor unit (events ++ more)) made
   made_more events more made all = All-weaker (WasMadeFor unit events) (WasMadeFor unit (events ++ more)) (was_open_more events more) made all
 
-  -- once it has taken what waits for it the server holds what the editor has
+  -- Once the server has taken the messages that wait for it, its documents are the editor's, so the editor had them.
   at_last : (events : List Event) (w : ClientAndServer) → Course (start unit) events w → WereOpenIn events (will_have w)
   at_last events w run uri version text at = go (open_at w.editor uri) refl
     where
@@ -116,7 +117,7 @@ module _ (unit : Unit) where
 
   -- ---- the editor's events
 
-  -- an act sends one message at most
+  -- holds if a list has at most one message, which is how many an act sends
   abbrev OneAtMost : List ToServer → Type 0
   OneAtMost [] = ⊤
   OneAtMost (m ∷ rest) = rest ≡ []
@@ -191,7 +192,7 @@ module _ (unit : Unit) where
 
   -- ---- every event
 
-  -- from what an event leaves to what is equal to it
+  -- A claim about the state that an event leads to holds of each state that is equal to it.
   left : (events : List Event) (e : Event) (after new : ClientAndServer) → (Course (start unit) (events ++ e ∷ []) after → WereOpen (events ++ e ∷ []) after) → Course (start unit) (events ++ e ∷ []) new → new ≡ after → WereOpen (events ++ e ∷ []) new
   left events e after new so run is = subst (WereOpen (events ++ e ∷ [])) (sym is) (so (subst (Course (start unit) (events ++ e ∷ [])) is run))
 

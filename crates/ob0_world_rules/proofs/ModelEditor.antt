@@ -1,4 +1,4 @@
--- The model's editor keeps ob0's rules: each of its acts is a move that it may make, or leaves everything as it is.
+-- Proves that the model's editor keeps ob0's rules: each of its acts is a move that it may make, or changes nothing.
 use Rattle.std.proofs.Common.{◌≡◌, ◌∙◌, ℕ, ◌+◌, cond, inl, inr, List, [], ◌∷◌, ◌++◌, map, append-nil, append_assoc, refl, sym, ap, subst}
 use Rattle.std.specs.Prelude.{◌⊎◌, Some}
 use Rattle.std.proofs.lemmas.List.{map-append}
@@ -21,7 +21,7 @@ use Rattle.std.specs.FinMap as map_of
 use Rattle.ob0_world_rules.proofs.UriLaws.{get_put, uri_itself}
 use Rattle.ob0_world_rules.proofs.OneCourse.{one_course}
 
--- the model's state, with what was announced, and no other message
+-- returns the model's state with the announced documents and no other messages
 abbrev pub from_model : ClientAndServer → List Announced → EditorAndServer
 from_model w announced =
     record {
@@ -34,20 +34,20 @@ from_model w announced =
       made = w.made;
     }
 
--- it may come to this, from that model's state, and these documents are announced
+-- states that some turns may lead from one state of the model to the other, and announce the documents `more`
 record ComesTo (w : ClientAndServer) (announced : List Announced) (new : ClientAndServer) (more : List Announced) : Type 0 where
   turns : List Turn
   lead : MayLead (from_model w announced) turns (from_model new (announced ++ more))
 
--- by one turn
+-- One turn leads to its result.
 by_turn : (w : ClientAndServer) (announced : List Announced) (new : ClientAndServer) (more : List Announced) (turn : Turn) → MayHappen (from_model w announced) turn (from_model new (announced ++ more)) → ComesTo w announced new more
 by_turn w announced new more turn happens = record { turns = turn ∷ []; lead = (from_model new (announced ++ more), happens, refl) }
 
--- by one turn that announces nothing
+-- One turn that announces nothing leads to its result.
 by_quiet_turn : (w : ClientAndServer) (announced : List Announced) (new : ClientAndServer) (turn : Turn) → MayHappen (from_model w announced) turn (from_model new announced) → ComesTo w announced new []
 by_quiet_turn w announced new turn happens = by_turn w announced new [] turn (subst (λ ts. MayHappen (from_model w announced) turn (from_model new ts)) (sym (append-nil announced)) happens)
 
--- by none
+-- An equal state is reached without any turn.
 as_it_was : (w new : ClientAndServer) (announced : List Announced) → new ≡ w → ComesTo w announced new []
 as_it_was w new announced is = record { turns = []; lead = λ i. from_model (is i) (append-nil announced i) }
 
@@ -56,11 +56,11 @@ by_move w announced move done more may =
     by_turn w announced (after_act w done) more (editor_does move)
     (done, more, may, λ i. record (from_model (after_act w done) (announced ++ more)) { to_server = map-append Some w.to_server done.sent i })
 
--- the document that is put in is announced
+-- A document that is inserted is the one that is announced.
 put_announced : (docs : EditorDocuments) (uri : List ℕ) (d : Open) → announced_at uri (map_of.get (map_of.insert docs uri d) uri) ++ [] ≡ record { uri = uri; document = d } ∷ []
 put_announced docs uri d = ap (λ o. announced_at uri o ++ []) (get_put docs uri d uri ∙ ap (λ b. cond b (Some d) (map_of.get docs uri)) (uri_itself uri))
 
--- one version later, by one notification
+-- returns the revision with the next version and this text, by one notification
 abbrev rewrite_of : ℕ → List ℕ → List TextChange → Revision
 rewrite_of version text how = record { version = version + 1; text = text; how = how }
 
@@ -95,7 +95,7 @@ applied_so e k edits a d text answered numbered same as_asked makes =
       is = refl;
     }
 
--- ---- what the model's editor knows of its asks
+-- ---- the asks of the model's editor
 
 knows_act : (e : Editor) (act : Act) → Knows e → Knows (done_by e act).editor
 knows_act e act knows =
@@ -132,11 +132,11 @@ knows_event w take_message new knows is = subst (λ (x : ClientAndServer). Knows
 
 -- ---- each event
 
--- nothing is done
+-- An act that does nothing leaves an equal state.
 nothing_done : (w : ClientAndServer) → after_act w (stays w.editor) ≡ w
 nothing_done w i = record w { to_server = append-nil w.to_server i; applied = append-nil w.applied i }
 
--- an act leaves everything as it is, or is a move that the editor may make; it announces what its messages announce
+-- holds if an act changes nothing, or is a move that the editor may make and that announces what its messages announce
 abbrev pub IsMove : Editor → Done → Type 0
 IsMove e done = (done ≡ stays e) ⊎ ((move : Move) × May e move done (announced_in done.editor done.sent))
 
@@ -203,7 +203,7 @@ lead_append : (turns more : List Turn) (w between new : EditorAndServer) → May
 lead_append [] more w between new is lead = subst (λ x. MayLead x more new) is lead
 lead_append (turn ∷ turns) more w between new (mid, happens, rest) lead = (mid, happens, lead_append turns more mid between new rest lead)
 
--- the documents that events announce, and how it may come to what they lead to
+-- states which documents events announce, and that turns may lead where the events lead
 record Led (w : ClientAndServer) (announced : List Announced) (events : List Event) (new : ClientAndServer) : Type 0 where
   more : List Announced
   are : AreAnnounced w events more
@@ -226,7 +226,7 @@ course_comes (event ∷ events) w announced new knows (between, happens, run) =
       };
     }
 
--- it is the model's state again
+-- Translating a state of the model to the model of every editor and back gives the same state.
 as_it_is : (w : ClientAndServer) (announced : List Announced) → as_model (from_model w announced) ≡ w
 as_it_is w announced i = record w { to_server = others_none w.to_server i; to_editor = others_none w.to_editor i }
 
@@ -235,7 +235,7 @@ the_model_is_one unit events end run =
     let led : Led (start unit) [] events end = course_comes events (start unit) [] end (knows_first unit) run in
     (led.comes.turns, from_model end led.more, led.comes.lead, as_it_is end led.more)
 
--- so the laws of the model's editor are cases of those of every editor
+-- The laws of the model's editor follow from the laws of every editor.
 pub in_every_interleaving : InEveryInterleaving
 in_every_interleaving unit events end run =
     let (turns, w, lead, is) = the_model_is_one unit events end run in

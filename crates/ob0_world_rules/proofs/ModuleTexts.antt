@@ -1,4 +1,4 @@
--- A text's tree by its lexemes alone, and by the tokens that the parser has of it, are the same.
+-- Proves that a text's tree by its lexemes is its tree by the tokens that the parser read.
 use Rattle.std.proofs.Common.{◌≡◌, ◌∙◌, ℕ, List, [], ◌∷◌, ◌++◌, map, refl, sym, subst}
 use Rattle.std.specs.Prelude.{◌≤◌, length}
 use Rattle.std.specs.List.{flat_map}

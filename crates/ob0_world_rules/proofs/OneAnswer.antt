@@ -1,5 +1,5 @@
--- An ask about a text has one answer.
--- By cases of the ask: two answers to one ask are both edits, both none, or one of each.
+-- Proves that an ask about a text has at most one answer.
+-- By cases of the ask: two answers to it are both edits, both empty, or one of each, which can't be.
 use Rattle.std.proofs.Common.{◌≡◌, ◌∙◌, ℕ, List, sym, ap, inl, inr}
 use Rattle.ob0_text.specs.declared.edits.Edit.{Edit}
 use Rattle.ob0_text.specs.declared.position_types.Position.{Position}

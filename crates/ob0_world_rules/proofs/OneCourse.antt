@@ -1,4 +1,5 @@
--- An ask about a text has one answer, so an event does one thing, and a list of events has one course.
+-- Proves that an event leads to at most one state, since an ask has at most one answer, and so a list of events has at
+-- most one course.
 use Rattle.std.proofs.Common.{◌≡◌, ◌∙◌, ℕ, Bool, true, false, List, [], ◌∷◌, ◌++◌, refl, sym, ap, subst}
 use Rattle.std.specs.Prelude.{◌↔◌, IsTrue, ℤ, Option, Some, None}
 use Rattle.ob0_text.specs.declared.position_types.Unit.{Unit}

@@ -1,7 +1,7 @@
--- The fields of a module's text are one list, whichever table of ordinals its names were read with.
--- Two tables of ordinals agree at identifiers alone, so nothing is said of the tables. Where each field's name is
--- written longer by the ordinal of its record, the module so written is the same for both (`AreOwners`), and the record
--- of each identifier is read off it.
+-- Proves that the fields of a module's text are one list, whichever table of ordinals its names were read with.
+-- Two tables of ordinals agree only at identifiers, so the proof doesn't compare the tables. It writes each field's
+-- name longer by the ordinal of its record. The module with these names is the same for both tables (`AreOwners`), and
+-- each identifier's record is read from its name.
 use Rattle.std.proofs.Common.{◌≡◌, ◌≢◌, ◌∙◌, ℕ, suc, ◌+◌, ◌<◌, ◌≤◌, Option, Some, None, List, [], ◌∷◌, map, length, replicate, set, refl, sym, ap, subst, arith, le_refl, get_or-set_other, get_or-set_same}
 use Rattle.std.proofs.Math.ListN.{length-set}
 use Rattle.std.proofs.lemmas.List.{get_or-replicate, length-replicate}
@@ -26,7 +26,7 @@ use Rattle.ob0_world_rules.proofs.OneModule.{Same, one_named_tree}
 
 -- ---- the table of a module's fields
 
--- what is below stays
+-- Writing fields into a table doesn't change its entries at smaller tokens.
 kept_below : (xs : List (ℕ × Option ℕ)) (table : List (Option ℕ)) (low high i : ℕ) → Ascending low (tokens xs) high → i < low → ordinal_in (with_fields_at table (fields_among xs)) i ≡ ordinal_in table i
 kept_below [] table low high i ascend below = refl
 kept_below ((x, None) ∷ xs) table low high i ascend below = kept_below xs table (x + 1) high i ascend.1 (omega (arith, ascend.0, below))
@@ -34,7 +34,7 @@ kept_below ((x, Some k) ∷ xs) table low high i ascend below =
     let other : i ≢ x = omega (arith, ascend.0, below) in
     kept_below xs (set table x (Some k)) (x + 1) high i ascend.1 (omega (arith, ascend.0, below)) ∙ get_or-set_other table x i (Some k) None other
 
--- identifiers in text order, whose fields are written into a table that has none of them
+-- Writing the fields of ascending tokens into a table that has none of them gives each token its owner.
 has_owners : (xs : List (ℕ × Option ℕ)) (table : List (Option ℕ)) (low high : ℕ) → Ascending low (tokens xs) high → high ≤ length table → ((i : ℕ) → low ≤ i → i < high → ordinal_in table i ≡ None)
     → HasOwners (ordinal_in (with_fields_at table (fields_among xs))) xs
 has_owners [] table low high ascend within vacant = tt
@@ -80,7 +80,7 @@ leaves_mapped f g t =
     leaves_spelled role.Declaring (mapped f g t)
     ∙ (ap lexeme_names (spell_mapped f g t) ∙ (names_relabelled f g (spell t) ∙ ap (map f) (sym (leaves_spelled role.Declaring t))))
 
--- each field's name, longer by the ordinal of its record
+-- returns a field's name, marked by the ordinal of its record
 abbrev marked_by : ℕ → written.Name → written.Name
 marked_by k x = k ∷ x
 
@@ -99,7 +99,7 @@ head_is h = cc
 tail_is : {A : Type 0} {x y : A} {xs ys : List A} → x ∷ xs ≡ y ∷ ys → xs ≡ ys
 tail_is h = cc
 
--- what a table writes at a token
+-- returns the name that a table gives a token
 abbrev writes : (ℕ → written.Name) → List (Option ℕ) → ℕ → written.Name
 writes text table i = of_records marked_by (ordinal_in table i) (text i)
 
@@ -123,7 +123,7 @@ module _ (r q : Resolution) (well : IsWellTyped r) (also : IsWellTyped q) (e : S
   tokens_too : tokens (owned_tokens q) ≡ leaves (tree_of q.module_read)
   tokens_too = module-tokens _ (tree_of q.module_read)
 
-  -- the module with its fields so marked
+  -- The module with its fields so marked is the same for both readings.
   same_writing : map (writes (text_at r.module_read.source) (table_of r)) (leaves (tree_of r.module_read)) ≡ map (writes (text_at q.module_read.source) (table_of q)) (leaves (tree_of q.module_read))
   same_writing =
       sym (leaves_mapped (writes (text_at r.module_read.source) (table_of r)) (value_at r.module_read.source) (tree_of r.module_read))

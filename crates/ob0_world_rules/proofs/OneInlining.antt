@@ -1,6 +1,7 @@
--- A constant is inlined in one way at a place: the edits are one list, and there are none where it is refused.
--- Token, constant and value are one by what is at the place; the occurrence since tokens of occurrences ascend
--- (`one_place`). So the first refusal and the parts of the edits are equal.
+-- Proves that a constant is inlined in at most one way at a place: two lists of edits are equal, and there are no edits
+-- if inlining is refused.
+-- Token, constant and value are determined by the place. The occurrence is determined since tokens of occurrences
+-- ascend (`one_place`). So the first refusal and the parts of the edits are equal.
 use Rattle.std.proofs.Common.{◌≡◌, ◌∙◌, ℕ, nat_lt, Option, Some, None, List, [], ◌∷◌, map, length, drop, slice_get, sym, ap, inl, inr, eq-eqb, eqb-true}
 use Rattle.std.specs.Prelude.{Ok, Err, Vec, if◌then◌else◌}
 use Rattle.std.specs.List.{filter, list_any, position_from, zip}
@@ -169,7 +170,7 @@ module _ {m n : Parsed} (e : Same m n) (unit : Unit) (text : List ℕ) (offset :
 -- ---- in a text
 
 module _ (unit : Unit) (text : List ℕ) (offset : ℕ) (xs : Vec Edit Global) where
-  -- by the bytes of their texts too
+  -- Two inlinings at one place in a text have equal parts: ranges, and bytes of the new texts.
   pub inlines_parts : (how : Inlining) (ys : Vec Edit Global) → InlinesIn how unit text offset xs → InlinesIn how unit text offset ys → map parts xs.items ≡ map parts ys.items
   inlines_parts Here ys h k =
       here_one (same_module (utf8 text) h.module_read k.module_read h.read.scan h.read.parsed k.read.scan k.read.parsed) k.read.parsed unit text offset xs ys h.inlines k.inlines

@@ -1,4 +1,5 @@
--- A text has one layout: the edits that lay it out are one list, and there are none where it is too long.
+-- Proves that a text is formatted in at most one way: two lists of edits are equal, and there are none if the result is
+-- too long.
 use Rattle.std.proofs.Common.{◌≡◌, ◌∙◌, ℕ, ◌≤◌, List, map, length, sym, ap, arith, subst}
 use Rattle.std.specs.Str.{chars}
 use mathlib.Core.List.{map-map}
@@ -46,14 +47,14 @@ module _ (text : List ℕ) (m n : IsWellTypedModule (utf8 text)) where
   one_change : (unit : Unit) (indent : Indent) → layout_changes unit indent text m ≡ layout_changes unit indent text n
   one_change unit indent = λ i. map (edit_of (width_of unit) text) (changed_gaps (one_source i).text (all_gaps indent (one_source i).text (line_roles 0 (one_module i)) (one_lexing i)))
 
--- by the bytes of their texts too
+-- Two formattings of a text have equal edits, by the bytes of their texts.
 pub lays_out_said : (unit : Unit) (indent : Indent) (text : List ℕ) (xs ys : List Edit) → LaysOut unit indent text xs → LaysOut unit indent text ys → map edit_text xs ≡ map edit_text ys
 lays_out_said unit indent text xs ys h k = h.changes ∙ (one_change text h.before k.before unit indent ∙ sym k.changes)
 
 pub lays_out_one : (unit : Unit) (indent : Indent) (text : List ℕ) (xs ys : List Edit) → LaysOut unit indent text xs → LaysOut unit indent text ys → replacements xs ≡ replacements ys
 lays_out_one unit indent text xs ys h k = same_said xs ys (lays_out_said unit indent text xs ys h k)
 
--- a text that has a module is short enough
+-- A text that has a module is no longer than `max_text`.
 short_enough : (text : List ℕ) (tree : Tree Name module_text) → IsTextOf tree text → length text ≤ max_text
 short_enough text tree is = subst (λ t. length t ≤ max_text) is.scan.of is.module_of.short
 

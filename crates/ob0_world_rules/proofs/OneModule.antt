@@ -1,8 +1,8 @@
--- A text is read as one module: two readings have the same tokens, and the same tree over them. What is said of a module by
--- these two is the same of both.
--- Two readings needn't be one `Parsed`: the code's tree keeps tokens of statements that no definition reads. So each
--- definition over a `Parsed` is a path along its tokens and its tree, and what it says is written once more with these
--- two in place of the `Parsed` (`name_in`, `refused_at`, `uses_in`, `tokens_in`).
+-- Proves that a text is read as at most one module: two readings have the same tokens, and the same tree over them. So
+-- a claim about a module by these two is the same for both.
+-- Two readings needn't be equal as a `Parsed`: the code's tree keeps tokens of statements that no definition reads. So
+-- each definition over a `Parsed` is written once more over its tokens and its tree (`name_in`, `refused_at`,
+-- `uses_in`, `tokens_in`).
 use Rattle.std.proofs.Common.{◌≡◌, ◌∙◌, ℕ, Option, List, [], ◌∷◌, map, sym, ap, arith}
 use Rattle.std.specs.Prelude.{option_and_then}
 use Rattle.std.specs.List.{find, zip}
@@ -50,7 +50,7 @@ module _ {m n : Parsed} (e : Same m n) where
   pub one_name : (offset : ℕ) → name_on m offset ≡ name_on n offset
   one_name offset = λ i. name_in (e.source i) (e.tree i) offset
 
--- edits that say the same are the same
+-- Returns the replacement with this range and these bytes as its text.
 abbrev of_parts : Range × List ℕ → Replacement
 of_parts p = record { range = p.0; text = chars p.1 }
 

@@ -1,4 +1,5 @@
--- Another name is written in one way: the edits are one list, and there are none where the name is refused.
+-- Proves that a new name is written in at most one way: two lists of edits are equal, and there are none if the name is
+-- refused.
 use Rattle.std.proofs.Common.{◌≡◌, ◌∙◌, ℕ, ◌<◌, ◌≤◌, Bool, true, false, Some, None, List, [], map, length, refl, sym, ap, arith, subst, inl, inr, if◌then◌else◌}
 use Rattle.std.specs.Prelude.{◌⊎◌, option_and_then, option_map, slice_get}
 use Rattle.std.specs.List.{filter}
@@ -36,14 +37,14 @@ use Rattle.ob0_world_rules.specs.Edited.{replacements}
 use Rattle.ob0_world_rules.proofs.OneModule.{Same, same_module, one_named_tree, one_name, identifiers_of, same_parts}
 use Rattle.ob0_world_rules.proofs.OneFields.{one_list_of_fields}
 
--- where the new name of a declaration is written, by the tokens and the tree over them
+-- holds if the declaration of d has this new name at its declaring token, by the tokens and the tree over them
 abbrev is_declared_in : Scanned → Tree ℕ module_text → ℕ → Name → Bool
 is_declared_in s t d new = elim (token_declaring (declaring_only (identifiers role.Declaring t)) d) [ Some token ↦ same_name (text_at s token) new | None ↦ false ]
 
 abbrev tokens_in : Scanned → Tree ℕ module_text → ℕ → Name → List ℕ
 tokens_in s t d new = if is_declared_in s t d new then [] else map (λ x. x.0.1) (filter (refers true d) (identifiers_of s t))
 
--- ---- the refusals, by what they say
+-- ---- the refusals, by their reasons
 
 module _ (unit : Unit) (text : List ℕ) (place : Position) (new : Name) (names : Resolution) where
   abbrev of_names : Renaming
@@ -135,7 +136,7 @@ module _ (unit : Unit) (text : List ℕ) (place : Position) (new : Name) (names 
   one_text : (xs ys : List ℕ) → xs ≡ ys → text_with r xs ≡ text_with q ys
   one_text xs ys same = λ i. with_text_at (e.source i) (same i) new
 
-  -- edits that write the new name at tokens
+  -- Edits that write the new name at the same tokens are equal.
   one_writing : (xs ys : List ℕ) (t u : Tree Name module_text) (es fs : List Edit) → xs ≡ ys → WritesName r xs t es → WritesName q ys u fs → map parts es ≡ map parts fs
   one_writing xs ys t u es fs same h k =
       h.changes ∙ ((λ i. map (edit_at unit text ((e.source i).tokens) new) (same i)) ∙ sym k.changes)
@@ -336,7 +337,7 @@ module _ (unit : Unit) (text : List ℕ) (place : Position) (new : Name) (names 
 
 -- ---- in a text
 
--- by the bytes of their texts too
+-- Two renamings of one place have equal edits, by the bytes of their texts.
 pub renames_parts : (unit : Unit) (text : List ℕ) (place : Position) (new : Name) (es fs : List Edit) → RenamesIn unit text place new es → RenamesIn unit text place new fs → map parts es ≡ map parts fs
 renames_parts unit text place new es fs h k = edits_one unit text place new h.names k.names h.read k.read es fs h.are_edits k.are_edits
 

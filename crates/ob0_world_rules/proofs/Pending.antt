@@ -1,5 +1,6 @@
--- What waits for the server, and what is published as it takes that: for each message that announces a document, the
--- server will hold, once it has taken it, the document as it was in the editor when the message was sent.
+-- Defines which announced documents still wait for the server, and proves that the server will publish them in order.
+-- For each message that announces a document, the server will have that document once it has taken the message. The
+-- document is as it was in the editor when the message was sent.
 use Rattle.std.proofs.Common.{◌≡◌, ◌∙◌, ℕ, List, [], ◌∷◌, ◌++◌, map, append-nil, append_assoc, refl, sym, ap, subst}
 use Rattle.std.specs.Prelude.{fold, Option, Some, None, option_map}
 use Rattle.std.proofs.lemmas.List.{map-append}
@@ -10,12 +11,12 @@ use Rattle.ob0_world_rules.specs.Happens.{ServerTakes}
 use Rattle.ob0_world_rules.specs.Mirror.{as_open}
 use Rattle.ob0_world_rules.specs.MadeInOrder.{Announced, announced_at, versions_announced, named_in, versioned_uri, AreMadeOf}
 
--- ---- what waits for the server
+-- ---- the documents that wait for the server
 
 abbrev pub AwaitedAt : OpenDocuments → List ℕ → List Announced → Type 0
 AwaitedAt held uri now = (o : Option Open) × (document_at held uri ≡ option_map as_open o) × (now ≡ announced_at uri o)
 
--- the documents that will be published for as this message is taken, where these were held before
+-- holds if these are the documents for which the server publishes when it takes this message and has these documents
 abbrev pub Awaits : OpenDocuments → ToServer → List Announced → Type 0
 Awaits held (notifies (Opened uri version text)) now = AwaitedAt (after_event held (Opened uri version text)) uri now
 Awaits held (notifies (Changed uri version how)) now = AwaitedAt (after_event held (Changed uri version how)) uri now
@@ -23,7 +24,7 @@ Awaits held (notifies (Lost uri)) now = now ≡ []
 Awaits held (notifies (Closed uri)) now = now ≡ []
 Awaits held (requests number uri ask) now = now ≡ []
 
--- and as each message that waits is taken
+-- holds if these are the documents for which the server will publish when it takes the messages of this queue, in order
 abbrev pub Pending : OpenDocuments → List ToServer → List Announced → Type 0
 Pending held [] waiting = waiting ≡ []
 Pending held (m ∷ queue) waiting =
@@ -39,7 +40,7 @@ pending_named held [] waiting is = ap (map versioned_uri) is
 pending_named held (m ∷ queue) waiting (now, later, is, so, rest) =
     ap (map versioned_uri) is ∙ map-append versioned_uri now later ∙ ap (λ ns. ns ++ map versioned_uri later) so.1 ∙ ap (λ ns. versions_announced m ++ ns) (pending_named (after_message held m) queue later rest)
 
--- ---- what is made as a message is taken
+-- ---- publications when the server takes a message
 
 pub made_append : (made more : List Made) (announced later : List Announced) → AreMadeOf made announced → AreMadeOf more later → AreMadeOf (made ++ more) (announced ++ later)
 made_append [] more [] later h k = k
@@ -66,7 +67,8 @@ message_made held (requests number uri ask) said made now (edits, answer, is_sai
 
 -- ---- the server's turn
 
--- These are announced of now, after those that publications were made for and those that wait: so it is after the event.
+-- States that after an event, which announces the documents `now`, all announced documents are the ones with
+-- publications, then the waiting ones.
 pub record Next (announced waiting now : List Announced) (new : ClientAndServer) : Type 0 where
   pub done : List Announced
   pub awaits : List Announced
@@ -75,7 +77,7 @@ pub record Next (announced waiting now : List Announced) (new : ClientAndServer)
   pub pending : Pending new.held new.to_server awaits
 
 module _ (announced waiting : List Announced) where
-  -- nothing is announced, and the queue and the publications stay
+  -- An event that announces nothing and changes neither queue nor publications leaves them so.
   pub stays : (w : ClientAndServer) → AreMadeOf w.made announced → Pending w.held w.to_server waiting → Next announced waiting [] w
   stays w made_of pending = record { done = announced; awaits = waiting; parts = append-nil (announced ++ waiting); made_of = made_of; pending = pending }
 

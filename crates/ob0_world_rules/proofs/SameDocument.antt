@@ -1,5 +1,5 @@
--- The hard step: a document that is the same opening with the same version as at its request has the text
--- that it had then. No act makes such a document of another one, since opening numbers are fresh and versions rise.
+-- Proves that a document with the same opening and version as at a request has the text that it had then. No act makes
+-- such a document of another one, since opening numbers are fresh and versions only rise.
 use Rattle.std.proofs.Common.{◌≡◌, ◌∙◌, ℕ, zero, suc, ◌+◌, ◌≤◌, ◌<◌, Bool, true, false, cond, List, [], ◌∷◌, ◌++◌, refl, sym, ap, subst, arith, ◌&&◌}
 use Rattle.std.specs.Prelude.{Option, Some, None, All, option_and_then, slice_get, ◌==◌}
 use Rattle.std.specs.Str.{bytes_eq}
@@ -16,12 +16,13 @@ use Rattle.ob0_world_rules.specs.Asks.{Ask}
 use Rattle.ob0_world_rules.specs.Editing.{opens, rewrites, closes, asks, if_same}
 use Rattle.ob0_world_rules.proofs.UriLaws.{get_put, get_removed, same_uri}
 
--- an earlier ask: its opening's number isn't fresh any more, and in that opening the version only rose
+-- states that a request was made earlier: its opening's number isn't fresh, and in that opening versions have only
+-- risen
 record Past (e : Editor) (a : SentAsk) : Type 0 where
   known : a.opening ≤ e.openings
   risen : (d : Open) → open_at e a.uri ≡ Some d → d.opening ≡ a.opening → a.version ≤ d.version
 
--- the document of the request is d, the same opening with the same version
+-- states that the document of the request is d, with the same opening and the same version
 pub record Same (e : Editor) (a : SentAsk) (d : Open) : Type 0 where
   pub at : open_at e a.uri ≡ Some d
   pub opening : d.opening ≡ a.opening
@@ -41,14 +42,14 @@ same_from e a d h = go (open_at e a.uri) refl h
           version = ap (λ y. y.version) (sym both.1) ∙ eqb-true _ _ tests.1;
         }
 
--- an editor, and its later state, in which an earlier ask has the same document only if it had it before
+-- states that in the later editor an earlier request has the same document only if it had it before
 record Later (e e' : Editor) : Type 0 where
   past : (a : SentAsk) → Past e a → Past e' a
   same : (a : SentAsk) (d : Open) → Past e a → Same e' a d → Same e a d
 
 -- ---- each change of the editor
 
--- a document that is found after one was put in is that one or was there before
+-- A document found after an insertion is the inserted one, or was found before.
 pub found : (docs : EditorDocuments) (uri q : List ℕ) (new d : Open) (P : Type 0) → map_of.get (map_of.insert docs uri new) q ≡ Some d
     → (q ≡ uri → new ≡ d → P) → (map_of.get docs q ≡ Some d → P) → P
 found docs uri q new d P h this other = go (bytes_eq q uri) refl (sym (get_put docs uri new q) ∙ h)
@@ -57,7 +58,7 @@ found docs uri q new d P h this other = go (bytes_eq q uri) refl (sym (get_put d
     go true is h = this (same_uri q uri is) (same_Some new d h)
     go false is h = other h
 
--- and one that is found after another was taken out was there before
+-- A document found after a removal was found before.
 pub left : (docs : EditorDocuments) (uri q : List ℕ) (d : Open) → map_of.get (map_of.remove docs uri) q ≡ Some d → map_of.get docs q ≡ Some d
 left docs uri q d h = go (bytes_eq q uri) (sym (get_removed docs uri q) ∙ h)
   where
@@ -65,7 +66,7 @@ left docs uri q d h = go (bytes_eq q uri) (sym (get_removed docs uri q) ∙ h)
     go true h = absurd (none-some d h)
     go false h = h
 
--- other asks or answers
+-- Changing the editor's requests or answers doesn't change the document of any request.
 later_documents : (e : Editor) (list : List SentAsk) (kept : List Answer) → Later e (record e { requested = list; answers = kept })
 later_documents e list kept =
     record {
@@ -73,7 +74,7 @@ later_documents e list kept =
       same = λ a d past same. record { at = same.at; opening = same.opening; version = same.version };
     }
 
--- no request has a fresh opening
+-- Opening a document doesn't give an earlier request its document back, since the opening number is fresh.
 later_open : (e : Editor) (uri : List ℕ) (new : Open) → new.opening ≡ e.openings + 1 → Later e (record e { documents = map_of.insert e.documents uri new; openings = e.openings + 1 })
 later_open e uri new fresh =
     record {
@@ -90,7 +91,7 @@ later_open e uri new fresh =
         let equal : e.openings + 1 ≡ a.opening = sym fresh ∙ ap (λ y. y.opening) is ∙ opening in
         omega arith
 
--- no request has a version that rose
+-- Revising a document doesn't give an earlier request its document back, since the version rises.
 later_revise : (e : Editor) (uri : List ℕ) (d new : Open) → new.opening ≡ d.opening → d.version < new.version → open_at e uri ≡ Some d → Later e (record e { documents = map_of.insert e.documents uri new })
 later_revise e uri d new same_opening rises was_open =
     record {
@@ -120,7 +121,7 @@ later_close e uri =
 
 -- ---- what the model's editor keeps
 
--- an earlier ask, whose document has the same text while it is the same
+-- states that an earlier request's document has the text that was asked about, if it has the same opening and version
 record IsKnown (e : Editor) (a : SentAsk) : Type 0 where
   past : Past e a
   same_text : (d : Open) → Same e a d → d.text ≡ a.text
@@ -138,7 +139,7 @@ known_numbered e [] k a all h = absurd (none-some a h)
 known_numbered e (x ∷ list) zero a all h = subst (IsKnown e) (same_Some x a h) (All-head (IsKnown e) x list all)
 known_numbered e (x ∷ list) (suc k) a all h = known_numbered e list k a (All-tail (IsKnown e) x list all) h
 
--- so the text is the request's
+-- A document with the opening and the version of request k has the text of that request.
 pub same_text : (e : Editor) (k : ℕ) (a : SentAsk) (d : Open) → Knows e → request_numbered e.requested k ≡ Some a → Same e a d → d.text ≡ a.text
 same_text e zero a d knows h same = absurd (none-some a h)
 same_text e (suc k) a d knows h same = (known_numbered e e.requested k a knows.asks h).same_text d same

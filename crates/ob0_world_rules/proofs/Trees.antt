@@ -1,4 +1,4 @@
--- A text has one tree at most.
+-- Proves that a text has at most one tree.
 use Rattle.std.proofs.Common.{◌≡◌, ◌∙◌, ℕ, List, [], sym, subst, append-nil}
 use Rattle.ob0_scan.specs.Scanned.{Scanned}
 use Rattle.ob0_scan.proofs.Spans.{one_scan}

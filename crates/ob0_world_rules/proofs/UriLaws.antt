@@ -1,4 +1,4 @@
--- Documents by uri after one was put in or taken out.
+-- Proves how documents are found by uri after an insertion or a removal.
 use Rattle.std.proofs.Common.{◌≡◌, ◌∙◌, ℕ, Bool, true, false, cond, List, refl, ap}
 use Rattle.std.specs.Prelude.{Option, Some, None, option_map}
 use Rattle.std.specs.Ordering.{nat_cmp}
@@ -9,7 +9,7 @@ use Rattle.std.specs.Str.{bytes_eq}
 use Rattle.std.proofs.lemmas.Map.Text.{is_eq-slice_cmp}
 use Rattle.std.proofs.lemmas.Slice.Eq.{bytes_eq-Decides}
 
--- the test by which a uri is looked up
+-- Two uris are equal if the test by which documents are looked up says so.
 pub same_uri : (q uri : List ℕ) → bytes_eq q uri ≡ true → q ≡ uri
 same_uri q uri e = (bytes_eq-Decides q uri).0 e
 

@@ -1,4 +1,4 @@
--- The answer to each request of an editor.
+-- Defines the answer to each request of an editor.
 -- Rule: docs/PROTOCOL.md, Requests on documents 6 to 10.
 use Rattle.std.specs.Prelude.{◌≡◌, ◌⊎◌, ℕ, List, [], Bool, Option, Some, None, IsTrue, ◌↔◌, Vec}
 use Rattle.std.specs.declared.alloc.Global.{Global}
@@ -18,26 +18,27 @@ use Rattle.ob0_world_rules.specs.Language.{WellTypedText}
 use Rattle.ob0_world_rules.specs.Edited.{Replacement, replacements}
 use Rattle.ob0_world_rules.specs.Asks.{Ask, rename, inline_here, inline_all, format, indent_read}
 
--- the place of a position, in bytes
+-- returns the byte offset of a position
 abbrev pub place_at : Unit → List ℕ → Position → ℕ
 place_at unit text position = offset_of (width_of unit) text position
 
--- these edits inline the constant that is named at a position, here or everywhere
+-- holds if these edits inline the constant that is named at a position, here or everywhere
 abbrev pub InlinesAt : Inlining → Unit → List ℕ → Position → List Edit → Type 0
 InlinesAt how unit text position edits =
     (found : Vec Edit Global)
     × InlinesIn how unit text (place_at unit text position) found
     × (edits ≡ found.items)
 
--- These edits are the ones requested: they write the new name, inline here or everywhere,
--- or format the text.
+-- Holds if these edits are the requested ones. They write the new name, inline a constant here or
+-- everywhere, or format the text.
 abbrev pub GivesEdits : Unit → List ℕ → Ask → List Edit → Type 0
 GivesEdits unit text (rename position name) edits = RenamesIn unit text position name edits
 GivesEdits unit text (inline_here position) edits = InlinesAt Here unit text position edits
 GivesEdits unit text (inline_all position) edits = InlinesAt Everywhere unit text position edits
 GivesEdits unit text (format indent) edits = LaysOut unit (indent_read indent) text edits
 
--- there are none, for a reason: the new name is refused, or the inlining, or the layout is too long
+-- holds if the request is refused: the new name or the inlining is refused, or the formatted text
+-- is too long
 abbrev pub Refuses : Unit → List ℕ → Ask → Type 0
 Refuses unit text (rename position name) =
     (refusal : EditRefusal) × IsRefusedIn unit text position name refusal
@@ -47,19 +48,20 @@ Refuses unit text (inline_all position) =
     IsNotInlinedIn Everywhere unit text (place_at unit text position)
 Refuses unit text (format indent) = IsTooLongLaidOut (indent_read indent) text
 
--- the answer about a text: the requested edits;
--- none when they are refused, or the text isn't a well-typed module
+-- Holds if this is the answer about a text. It has the requested edits, or no edits if the request
+-- is refused or the text isn't a well-typed module.
 abbrev pub AnswersFor : Unit → List ℕ → Ask → List Replacement → Type 0
 AnswersFor unit text ask given =
     ((edits : List Edit) × GivesEdits unit text ask edits × (given ≡ replacements edits))
     ⊎ ((Refuses unit text ask ⊎ ¬ WellTypedText text) × (given ≡ []))
 
--- the answer about a document: no edits when it isn't open, or is out of step
+-- Holds if this is the answer about a document. It has no edits if the document isn't open or is
+-- out of step.
 abbrev pub IsAnswer : Unit → Option Document → Ask → List Replacement → Type 0
 IsAnswer unit (Some (InStep version text)) ask given = AnswersFor unit text ask given
 IsAnswer unit (Some OutOfStep) ask given = given ≡ []
 IsAnswer unit None ask given = given ≡ []
 
--- a list of diagnostics of the text: it is empty exactly when the text is a well-typed module
+-- holds if `empty` is true exactly when the text is a well-typed module
 abbrev pub IsEmptyIfCorrect : List ℕ → Bool → Type 0
 IsEmptyIfCorrect text empty = IsTrue empty ↔ WellTypedText text

@@ -6,16 +6,17 @@ use Rattle.ob0_text.specs.declared.edits.Indent.{Indent}
 use Rattle.ob0_text.specs.declared.edits.Indent.TheVariants.{Tab, Spaces}
 use Rattle.ob0_text.specs.Indents.{level_spaces}
 
--- a request about a document whose answer the editor may apply
+-- a request about a document, whose answer the editor may apply
 pub data Ask : Type 0 where
-  -- the position, and the bytes of the new name
+  -- renames the declaration or field named at this position; the bytes are the new name
   rename : Position → List ℕ → Ask
-  -- the constant's value replaces the use at this position, or all uses
+  -- replaces the constant's use at this position, or all its uses, by its value
   inline_here : Position → Ask
   inline_all : Position → Ask
   format : Indent → Ask
 
--- returns the indent that is used: a count of spaces becomes one that a level may have
+-- Returns the indent that is used. A count of spaces is brought into the range that a level may
+-- have.
 abbrev pub indent_read : Indent → Indent
 indent_read Tab = Tab
 indent_read (Spaces n) = Spaces (level_spaces n)

@@ -11,18 +11,18 @@ use Rattle.ob0_world_rules.specs.Asks.{Ask}
 
 -- ---- the editor
 
--- a document that is open in the editor; no two openings have one number
+-- a document that is open in the editor; each opening has its own number
 pub record Open : Type 0 where
   pub version : ℕ
   pub text : List ℕ
   pub opening : ℕ
 
--- open documents by the bytes of their uris
+-- the open documents, by the bytes of their uris
 abbrev pub EditorDocuments : Type 0
 EditorDocuments = map_of.FinMap (slice_cmp nat_cmp) Open
 
--- a request that was sent: what is requested, the document,
--- and its text, opening and version at that time
+-- a request that was sent, with its document and that document's text, opening and version at that
+-- time
 pub record SentAsk : Type 0 where
   pub ask : Ask
   pub uri : List ℕ
@@ -30,33 +30,33 @@ pub record SentAsk : Type 0 where
   pub opening : ℕ
   pub version : ℕ
 
--- an answer that the editor has
+-- an answer that the editor has received and not yet used, with the number of its request
 pub record Answer : Type 0 where
   pub number : ℕ
   pub edits : List Replacement
 
--- an editor: its documents, what it requested, and the answers that it has
+-- an editor with its documents, its requests and the answers that it has
 pub record Editor : Type 0 where
-  -- the unit of positions
+  -- the unit in which positions are counted
   pub unit : Unit
   pub documents : EditorDocuments
-  -- the number of openings so far
+  -- the number of documents opened so far, closed ones included
   pub openings : ℕ
-  -- the asks that were sent; the first has number 1
+  -- the requests that were sent, in order; the first has number 1
   pub requested : List SentAsk
   pub answers : List Answer
 
--- an editor with no open document
+-- returns an editor without open documents
 abbrev pub new_editor : Unit → Editor
 new_editor unit =
     record { unit = unit; documents = map_of.empty; openings = 0; requested = []; answers = [] }
 
--- the request of this number, counted from 1
+-- returns the request with this number, counted from 1
 abbrev pub request_numbered : List SentAsk → ℕ → Option SentAsk
 request_numbered requested zero = None
 request_numbered requested (suc k) = slice_get requested k
 
--- the open document of this uri
+-- returns the open document with this uri
 abbrev pub open_at : Editor → List ℕ → Option Open
 open_at e uri = map_of.get e.documents uri
 
@@ -65,26 +65,27 @@ open_at e uri = map_of.get e.documents uri
 -- a message to the server
 pub data ToServer : Type 0 where
   notifies : DocumentEvent → ToServer
-  -- the request's number, the uri and what is requested
+  -- the request's number, the uri and the ask
   requests : ℕ → List ℕ → Ask → ToServer
 
 -- a message to the editor
 pub data ToEditor : Type 0 where
-  -- the uri, the version, and whether no diagnostic is in the list;
-  -- a close sends a list without version
+  -- The uri, the version, and whether the list of diagnostics is empty. A close publishes a list
+  -- without a version.
   publishes : List ℕ → Option ℤ → Bool → ToEditor
-  -- the ask's number and the edits; a refusal has none
+  -- the request's number and the edits; a refusal has no edits
   answers : ℕ → List Replacement → ToEditor
 
 -- ---- results
 
--- an edit that the editor applied
+-- an edit that the editor applied: the uri, and the text before and after it
 pub record Applied : Type 0 where
   pub uri : List ℕ
   pub before : List ℕ
   pub after : List ℕ
 
--- a publication with a version, the text that it was made for, and whether no diagnostic was in it
+-- a publication with a version, the text that it was made for, and whether its list of diagnostics
+-- is empty
 pub record Made : Type 0 where
   pub uri : List ℕ
   pub version : ℤ
@@ -93,7 +94,7 @@ pub record Made : Type 0 where
 
 -- ---- the whole
 
--- client and server: the editor, the server's documents, the two queues, and the results so far
+-- a client and a server: the editor, the server's documents, the two queues, and the results so far
 pub record ClientAndServer : Type 0 where
   pub editor : Editor
   pub to_server : List ToServer
@@ -103,7 +104,7 @@ pub record ClientAndServer : Type 0 where
   pub applied : List Applied
   pub made : List Made
 
--- the state before the first event, in which both count positions in this unit
+-- returns the state before the first event, in which client and server count positions in this unit
 abbrev pub start : Unit → ClientAndServer
 start unit =
     record {
@@ -115,7 +116,7 @@ start unit =
       made = [];
     }
 
--- returns the server's documents after it has taken a message
+-- returns the server's documents after the server has taken a message
 abbrev pub after_message : OpenDocuments → ToServer → OpenDocuments
 after_message held (notifies note) = after_event held note
 after_message held (requests number uri ask) = held

@@ -1,4 +1,4 @@
--- Defines the text that edits and changes make of a text.
+-- Defines the text that results when edits and changes are made in a text.
 -- Rule: LSP 3.17, TextEdit[].
 use Rattle.std.specs.Prelude.{◌≡◌, ℕ, List, map, fold, Option, None, string_bytes}
 use Rattle.std.specs.Str.{chars}
@@ -14,11 +14,11 @@ pub record Replacement : Type 0 where
   pub range : Range
   pub text : List ℕ
 
--- an edit of the code, by the characters of its text
+-- returns an edit of the code as a replacement, with the characters of its text
 abbrev pub replacement_of : Edit → Replacement
 replacement_of e = record { range = e.range; text = chars (string_bytes e.text) }
 
--- edits of the code as replacements
+-- returns edits of the code as replacements
 abbrev pub replacements : List Edit → List Replacement
 replacements edits = map replacement_of edits
 
@@ -27,17 +27,18 @@ unfoldable pub edited : Unit → List ℕ → List Replacement → Option (List 
 edited unit text edits =
     patched_by_cuts text (map (λ e. cut_at (width_of unit) text e.range e.text) edits)
 
--- the change that gives the whole text
+-- returns the change that replaces the whole text by this text
 abbrev pub whole_text : List ℕ → TextChange
 whole_text text = record { range = None; text = text }
 
--- a text after changes, each made of the result of the one before
+-- Returns a text after changes, of which each applies to the result of the one before. None if one
+-- of them can't be made.
 abbrev pub after_changes : Unit → Option (List ℕ) → List TextChange → Option (List ℕ)
 after_changes unit text changes = fold (changed_text unit) text changes
 
 -- ---- the law
 
--- edits of the code, as replacements, leave the text that is patched by them
+-- states that edits of the code, made as replacements, give the text that they patch
 abbrev pub EditsArePatched : Type 0
 EditsArePatched =
     (unit : Unit) (text : List ℕ) (edits : List Edit)

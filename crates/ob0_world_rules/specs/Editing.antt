@@ -15,44 +15,45 @@ pub data Act : Type 0 where
   change_document : List ℕ → List TextChange → Act
   close_document : List ℕ → Act
   ask_about : List ℕ → Ask → Act
-  -- it applies an answer that it has, or drops it
+  -- applies the answer with this number, or discards it
   apply : ℕ → Act
   discard : ℕ → Act
 
--- the result of an act: the editor, the messages that it sends, and the edits that it applies
+-- the result of an act: the editor, the messages that it sends, and the edits that it applied
 pub record Done : Type 0 where
   pub editor : Editor
   pub sent : List ToServer
   pub applied : List Applied
 
--- sends and applies nothing
+-- returns the result of an act that changes, sends and applies nothing
 abbrev pub stays : Editor → Done
 stays e = record { editor = e; sent = []; applied = [] }
 
--- sends a message
+-- returns the result of an act that sends one message
 abbrev pub sends : Editor → ToServer → List Applied → Done
 sends e message applied = record { editor = e; sent = message ∷ []; applied = applied }
 
--- opens a document, with version 1 and a new opening number
+-- returns the result of opening a document, with version 1 and a new opening number
 abbrev pub opens : Editor → List ℕ → List ℕ → Done
 opens e uri text =
     let d : Open = record { version = 1; text = text; opening = e.openings + 1 } in
     sends (record e { documents = map_of.insert e.documents uri d; openings = e.openings + 1 })
     (notifies (Opened uri (pos 1) text)) []
 
--- gives an open document this text and the next version, and tells the server the changes
+-- returns the result of giving an open document this text and the next version; the changes are
+-- sent
 abbrev pub rewrites : Editor → List ℕ → Open → List ℕ → List TextChange → List Applied → Done
 rewrites e uri d text how applied =
     let new : Open = record d { version = d.version + 1; text = text } in
     sends (record e { documents = map_of.insert e.documents uri new })
     (notifies (Changed uri (pos new.version) how)) applied
 
--- closes an open document
+-- returns the result of closing an open document
 abbrev pub closes : Editor → List ℕ → Done
 closes e uri =
     sends (record e { documents = map_of.remove e.documents uri }) (notifies (Closed uri)) []
 
--- requests something about an open document, with the next number
+-- returns the result of a request about an open document, sent with the next number
 abbrev pub asks : Editor → List ℕ → Ask → Open → Done
 asks e uri ask d =
     let a : SentAsk = record {
@@ -65,26 +66,27 @@ asks e uri ask d =
     sends (record e { requested = e.requested ++ a ∷ [] })
     (requests (suc (length e.requested)) uri ask) []
 
--- returns the edits of the answer with this number, if the editor has it
+-- returns the edits of the first answer with this number, if the editor has one
 abbrev pub kept_answer : ℕ → List Answer → Option (List Replacement)
 kept_answer k [] = None
 kept_answer k (a ∷ rest) = if a.number == k then Some a.edits else kept_answer k rest
 
--- returns all answers except the one that `kept_answer` finds
+-- returns the answers without the one that `kept_answer` finds
 abbrev pub all_but : ℕ → List Answer → List Answer
 all_but k [] = []
 all_but k (a ∷ rest) = if a.number == k then rest else a ∷ all_but k rest
 
--- the editor without answer k
+-- returns the editor without answer k
 abbrev pub without_answer : Editor → ℕ → Editor
 without_answer e k = record e { answers = all_but k e.answers }
 
--- returns the document if it is the opening and the version that was asked about
+-- returns the document if its opening and version are those at the time of the request
 abbrev pub if_same : SentAsk → Open → Option Open
 if_same a d = if d.opening == a.opening && d.version == a.version then Some d else None
 
--- makes the edits that answer request k in its document, if that is still the same opening and version
--- and no two edits share a character
+-- Returns the result of making the edits that answer request k in the document of that request.
+-- None if there is no such document, if its opening or version has changed, or if two edits share a
+-- character.
 abbrev pub applies : Editor → ℕ → List Replacement → Option Done
 applies e k edits = do
   a ← request_numbered e.requested k
@@ -93,8 +95,9 @@ applies e k edits = do
   let made : Applied = record { uri = a.uri; before = d.text; after = text }
   Some (rewrites e a.uri d text (whole_text text ∷ []) (made ∷ []))
 
--- Returns the result of an act. It does nothing if it opens an open document, or changes, closes or
--- asks about one that isn't open. `apply` and `discard` remove the answer in any case.
+-- Returns the result of an act. Nothing happens on opening an open document, or on changing,
+-- closing or asking about a document that isn't open. `apply` and `discard` remove the answer in
+-- any case.
 abbrev pub done_by : Editor → Act → Done
 done_by e (open_document uri text) =
     if is_some (open_at e uri) then stays e else opens e uri text
@@ -112,7 +115,8 @@ done_by e (apply k) =
     unwrap_or (kept_answer k e.answers >>= applies rest k) (stays rest)
 done_by e (discard k) = stays (without_answer e k)
 
--- returns the editor after it has read a message: it keeps an answer with edits
+-- Returns the editor after it has read a message. The editor keeps an answer that has edits, and
+-- nothing else.
 abbrev pub reads : Editor → ToEditor → Editor
 reads e (publishes uri version empty) = e
 reads e (answers number []) = e

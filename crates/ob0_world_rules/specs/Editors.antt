@@ -1,5 +1,5 @@
--- States the rules that an editor keeps: what it may do, and what it sends.
--- The model's editor (`done_by`) is one of them: it does each thing in one way.
+-- Defines the rules for an editor: which moves it may make, and what it sends.
+-- The model's editor (`done_by`) keeps these rules and makes each move in one way.
 -- Rule: LSP 3.17, Text Document Synchronization, versioned documents.
 use Rattle.std.specs.Prelude.{◌≡◌, ◌+◌, ℕ, pos, List, [], ◌∷◌, ◌++◌, map, Some}
 use Rattle.std.specs.FinMap as map_of
@@ -10,7 +10,7 @@ use Rattle.ob0_world_rules.specs.ClientAndServer.{Open, SentAsk, Editor, request
 use Rattle.ob0_world_rules.specs.Editing.{Done, stays, sends, closes, asks, kept_answer, without_answer}
 use Rattle.ob0_world_rules.specs.MadeInOrder.{Announced}
 
--- a document's next version and text, and the changes by which the server is told of them
+-- a document's next version and text, and the changes sent to the server for it
 pub record Revision : Type 0 where
   pub version : ℕ
   pub text : List ℕ
@@ -20,11 +20,12 @@ pub record Revision : Type 0 where
 pub data Move : Type 0 where
   -- the uri, the version and the text
   to_open : List ℕ → ℕ → List ℕ → Move
-  -- the user's changes of an open document, sent one by one
+  -- the user's changes of an open document, each with a notification
   to_revise : List ℕ → List Revision → Move
   to_close : List ℕ → Move
   to_ask : List ℕ → Ask → Move
-  -- it makes the edits of the answer with this number, sent as any changes, or drops it
+  -- makes the edits of the answer with this number, sent like any other changes, or drops the
+  -- answer
   to_apply : ℕ → List Revision → Move
   to_drop : ℕ → Move
 
@@ -38,9 +39,9 @@ revised d r = record d { version = r.version; text = r.text }
 abbrev pub with_document : Editor → List ℕ → Open → Editor
 with_document e uri d = record e { documents = map_of.insert e.documents uri d }
 
--- States that the open document is revised one revision after another, and that these documents are
--- announced. The changes of each revision, ranges or whole texts in the agreed unit, make its text of
--- the text before. Its version may be any.
+-- Holds if the open document is revised by one revision after another, and if these documents are
+-- announced. The changes of each revision, ranges or whole texts in the agreed unit, make its text
+-- of the text before. A revision may have any version.
 abbrev pub Revises : Editor → List ℕ → List Revision → Editor → List Announced → Type 0
 Revises e uri [] new announced = (new ≡ e) × (announced ≡ [])
 Revises e uri (r ∷ more) new announced =
@@ -51,7 +52,7 @@ Revises e uri (r ∷ more) new announced =
     × Revises (with_document e uri (revised d r)) uri more new later
     × (announced ≡ record { uri = uri; document = revised d r } ∷ later)
 
--- returns the messages that tell the server of revisions
+-- returns the notifications that send these revisions to the server
 abbrev pub told : List ℕ → List Revision → List ToServer
 told uri revisions = map (λ r. notifies (Changed uri (pos r.version) r.how)) revisions
 
@@ -62,9 +63,10 @@ changes_of (r ∷ more) = r.how ++ changes_of more
 
 -- ---- answers
 
--- States that the edits of answer k are made at once in the document that was asked about, which still
--- has the text that was asked about. The first of the changes that are sent make the edited text. The
--- others are the user's next changes, which an editor may send together with the edits.
+-- States that the edits of answer k are made in the document that was asked about, all at once. The
+-- document still has the text that was asked about. The first changes that are sent make the edited
+-- text. The other changes are the user's next ones, which an editor may send together with the
+-- edits.
 pub record AppliesAnswer (e : Editor) (k : ℕ) (revisions : List Revision) (done : Done)
     (announced : List Announced) : Type 0 where
   pub edits : List Replacement
@@ -91,14 +93,14 @@ pub record AppliesAnswer (e : Editor) (k : ℕ) (revisions : List Revision) (don
 
 -- ---- every move
 
--- a document is opened, with any version; an open one is opened again
+-- returns the result of opening a document with any version; an open document may be opened again
 abbrev pub opened_as : Open → Editor → List ℕ → Done
 opened_as d e uri =
     sends (record (with_document e uri d) { openings = d.opening })
     (notifies (Opened uri (pos d.version) d.text)) []
 
--- States that a move may have this result and announce these documents to the server. Only an open
--- document is changed or asked about.
+-- Holds if a move may have this result and announce these documents to the server. Only an open
+-- document can be changed or asked about.
 abbrev pub May : Editor → Move → Done → List Announced → Type 0
 May e (to_open uri version text) done announced =
     let d : Open = record { version = version; text = text; opening = e.openings + 1 } in

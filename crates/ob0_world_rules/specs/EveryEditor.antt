@@ -1,4 +1,4 @@
--- States what holds with every editor that keeps ob0's rules, in every interleaving.
+-- States the guarantees for every editor that keeps ob0's rules, in every interleaving.
 -- Rule: docs/PROMISES.md, Client and server.
 use Rattle.std.specs.Prelude.{◌≡◌, List, [], ◌∷◌, ◌++◌, map, Option, Some, None}
 use Rattle.ob0_text.specs.declared.position_types.Unit.{Unit}
@@ -14,20 +14,20 @@ use Rattle.ob0_world_rules.specs.Editors.{Move, May}
 
 -- ---- an editor and the server
 
--- An editor and the server. The queues may have other messages (`None`): requests that change nothing,
--- such as a hover, their answers, and notifications that the server ignores.
+-- An editor and the server. Their queues may contain other messages (`None`): requests that change
+-- nothing, such as a hover, the answers to them, and notifications that the server ignores.
 pub record EditorAndServer : Type 0 where
   pub editor : Editor
   pub to_server : List (Option ToServer)
   -- the documents that are open in the server
   pub held : OpenDocuments
   pub to_editor : List (Option ToEditor)
-  -- the documents that the editor announced to the server so far
+  -- the documents that the editor has announced to the server so far
   pub announced : List Announced
   pub applied : List Applied
   pub made : List Made
 
--- the state before the first turn, in which both count positions in this unit
+-- returns the state before the first turn, in which editor and server count positions in this unit
 abbrev pub nothing_yet : Unit → EditorAndServer
 nothing_yet unit =
     record {
@@ -40,19 +40,20 @@ nothing_yet unit =
       made = [];
     }
 
--- returns the messages of a queue without the other messages
+-- returns the messages of a queue, except the other messages
 abbrev pub without_others : {A : Type 0} → List (Option A) → List A
 without_others [] = []
 without_others (None ∷ queue) = without_others queue
 without_others (Some message ∷ queue) = message ∷ without_others queue
 
--- returns the messages of a queue that open, change or close documents
+-- returns the notifications of a queue, that is the messages that open, change or close documents
 abbrev pub notes_among : List ToServer → List ToServer
 notes_among [] = []
 notes_among (notifies note ∷ queue) = notifies note ∷ notes_among queue
 notes_among (requests k uri ask ∷ queue) = notes_among queue
 
--- returns the state of client and server in the model, without the other messages
+-- returns the state as a client and a server of the model, without the other messages and the
+-- announced documents
 abbrev pub as_model : EditorAndServer → ClientAndServer
 as_model w =
     record {
@@ -70,14 +71,14 @@ as_model w =
 pub data Turn : Type 0 where
   -- the editor makes a move
   editor_does : Move → Turn
-  -- the editor sends another message
+  -- the editor sends one of the other messages (`None`)
   editor_says : Turn
-  -- the server takes one message, and sends what it replies
+  -- the server takes one message and sends its replies
   server_takes : Turn
   -- the editor takes one message
   editor_takes : Turn
 
--- returns the state after a move of the editor
+-- returns the state after a move of the editor, by which these documents are announced
 abbrev pub after_move : EditorAndServer → Done → List Announced → EditorAndServer
 after_move w done announced =
     record w {
@@ -87,8 +88,8 @@ after_move w done announced =
       applied = w.applied ++ done.applied;
     }
 
--- States that the server takes the first message that waits for it. Another message changes no
--- document, and only other messages answer it, if any.
+-- Holds if the server takes the first message that waits for it. If that is one of the other
+-- messages, no document changes, and all replies are other messages.
 abbrev pub TakesNext : EditorAndServer → List (Option ToServer) → EditorAndServer → Type 0
 TakesNext w [] new = new ≡ w
 TakesNext w (None ∷ rest) new =
@@ -114,7 +115,7 @@ after_one w (None ∷ rest) = record w { to_editor = rest }
 after_one w (Some message ∷ rest) =
     record w { editor = reads w.editor message; to_editor = rest }
 
--- states that this turn may lead from w to `new`
+-- holds if this turn may lead from w to `new`
 abbrev pub MayHappen : EditorAndServer → Turn → EditorAndServer → Type 0
 MayHappen w (editor_does move) new =
     (done : Done)
@@ -125,7 +126,7 @@ MayHappen w editor_says new = new ≡ record w { to_server = w.to_server ++ None
 MayHappen w server_takes new = TakesNext w w.to_server new
 MayHappen w editor_takes new = new ≡ after_one w w.to_editor
 
--- states that these turns, one after another, may lead from one state to the other
+-- holds if these turns, one after another, may lead from w to `new`
 abbrev pub MayLead : EditorAndServer → List Turn → EditorAndServer → Type 0
 MayLead w [] new = new ≡ w
 MayLead w (turn ∷ turns) new =
@@ -133,33 +134,33 @@ MayLead w (turn ∷ turns) new =
 
 -- ---- the laws
 
--- states what holds in each state that turns lead to
+-- states the guarantees for a state to which turns lead
 pub record HoldsWithEditor (w : EditorAndServer) : Type 0 where
-  -- each applied edit keeps the run; each list of diagnostics is empty exactly when the text that it
-  -- was made for is a well-typed module; the latest ones are of the present text, when no message
-  -- about a document waits for the server
+  -- Each applied edit keeps the run. Each list of diagnostics is empty exactly when its text is a
+  -- well-typed module. If no message about a document waits for the server, the latest diagnostics
+  -- are of the present text.
   pub holds : Holds (as_model w)
-  -- the latest diagnostics are of the present text even if asks and other messages wait
+  -- the latest diagnostics are of the present text even if asks and other messages still wait
   pub latest : notes_among (without_others w.to_server) ≡ [] → AreUpToDate w.editor w.made
-  -- the server's documents, after the messages that wait for it, are the editor's documents
+  -- once the server has taken the messages that wait for it, it has the editor's documents
   pub mirrors : Mirrors (as_model w)
-  -- the publications are for the first documents that the editor announced, one for each, in order;
-  -- messages that still wait for the server announce the other documents
+  -- The publications are for the first documents that the editor announced, one for each, in order.
+  -- The messages that still wait for the server announce the other documents.
   pub published : List Announced
   pub waiting : List Announced
   pub all : w.announced ≡ published ++ waiting
   pub made_of : AreMadeOf w.made published
   pub still_wait : map versioned_uri waiting ≡ named_in (without_others w.to_server)
 
--- states that it holds with every editor that keeps ob0's rules, in every interleaving
+-- states that the guarantees hold with every editor that keeps ob0's rules, in every interleaving
 abbrev pub WithEveryEditor : Type 0
 WithEveryEditor =
     (unit : Unit) (turns : List Turn) (w : EditorAndServer)
     → MayLead (nothing_yet unit) turns w
     → HoldsWithEditor w
 
--- States that the model's editor keeps ob0's rules: turns may lead to each state that its events lead
--- to.
+-- States that the model's editor keeps ob0's rules: turns may lead to each state to which its
+-- events lead.
 abbrev pub TheModelIsOne : Type 0
 TheModelIsOne =
     (unit : Unit) (events : List Event) (end : ClientAndServer)

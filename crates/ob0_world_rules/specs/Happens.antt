@@ -1,4 +1,4 @@
--- Defines the events at client and server, and their results.
+-- Defines the events of a client and a server, and their results.
 -- Rule: LSP 3.17: a model of client and server.
 use Rattle.std.specs.Prelude.{◌≡◌, List, [], ◌∷◌, ◌++◌}
 use Rattle.ob0_world_rules.specs.ClientAndServer.{ToServer, ToEditor, Made, ClientAndServer, after_message}
@@ -7,9 +7,9 @@ use Rattle.ob0_world_rules.specs.Serving.{Replies}
 
 -- an event
 pub data Event : Type 0 where
-  -- the editor does something
+  -- the editor acts
   does : Act → Event
-  -- the server takes one message, and sends what it replies
+  -- the server takes one message and sends its replies
   serve : Event
   -- the editor takes one message
   take_message : Event
@@ -23,7 +23,7 @@ after_act w done =
       applied = w.applied ++ done.applied;
     }
 
--- the server takes the first message that waits for it, and sends its replies
+-- holds if the server takes the first message that waits for it, and sends its replies
 abbrev pub ServerTakes : ClientAndServer → List ToServer → ClientAndServer → Type 0
 ServerTakes w [] new = new ≡ w
 ServerTakes w (message ∷ rest) new =
@@ -44,13 +44,13 @@ after_taking w [] = w
 after_taking w (message ∷ rest) =
     record w { editor = reads w.editor message; to_editor = rest }
 
--- this event leads from w to `new`
+-- holds if this event leads from w to `new`
 abbrev pub Happens : ClientAndServer → Event → ClientAndServer → Type 0
 Happens w (does act) new = new ≡ after_act w (done_by w.editor act)
 Happens w serve new = ServerTakes w w.to_server new
 Happens w take_message new = new ≡ after_taking w w.to_editor
 
--- these events, one after another, lead from one state to the other
+-- holds if these events, one after another, lead from w to `new`
 abbrev pub Course : ClientAndServer → List Event → ClientAndServer → Type 0
 Course w [] new = new ≡ w
 Course w (event ∷ events) new =

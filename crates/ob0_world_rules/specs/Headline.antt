@@ -1,4 +1,4 @@
--- States the headline: what holds of every list of events.
+-- States the guarantees of every list of events.
 -- Rule: docs/PROMISES.md, Client and server.
 use Rattle.std.specs.Prelude.{◌≡◌, ℕ, pos, List, [], ◌++◌, All, Option, Some, None, MatchOption, fold, if◌then◌else◌}
 use Rattle.std.specs.Str.{bytes_eq}
@@ -10,7 +10,8 @@ use Rattle.ob0_world_rules.specs.Happens.{Event, Course}
 
 -- ---- an applied edit
 
--- the edit leaves a well-typed module with the same run as the well-typed module before
+-- states that the edit leaves a well-typed module, with the same run as the well-typed module
+-- before it
 pub record KeepsTheRun (a : Applied) : Type 0 where
   pub before_fits : WellTypedText a.before
   pub after_fits : WellTypedText a.after
@@ -18,12 +19,13 @@ pub record KeepsTheRun (a : Applied) : Type 0 where
 
 -- ---- a publication with a version
 
--- the list is empty exactly when the text that it was made for is a well-typed module
+-- holds if the published list is empty exactly when the text that it was made for is a well-typed
+-- module
 abbrev pub IsRight : Made → Type 0
 IsRight m = IsEmptyIfCorrect m.text m.empty
 
--- States that after some of the first events the editor has the document open, with the version that
--- the publication has and the text that it was made for.
+-- States that after some of the first events the editor has the document open, with the
+-- publication's version and with the text that it was made for.
 pub record WasMadeFor (unit : Unit) (events : List Event) (m : Made) : Type 0 where
   pub before : List Event
   pub following : List Event
@@ -35,12 +37,13 @@ pub record WasMadeFor (unit : Unit) (events : List Event) (m : Made) : Type 0 wh
   pub version_is : pos document.version ≡ m.version
   pub text_is : document.text ≡ m.text
 
--- returns the last publication for a uri
+-- returns the last publication with a version for a uri
 abbrev pub last_publication : List ℕ → List Made → Option Made
 last_publication uri made =
     fold (λ last m. if bytes_eq m.uri uri then Some m else last) None made
 
--- each open document has a publication, and the last one was made for its present version and text
+-- Holds if each open document has a publication, and the last one was made for its present version
+-- and text.
 abbrev pub AreUpToDate : Editor → List Made → Type 0
 AreUpToDate e made =
     (uri : List ℕ) (d : Open)
@@ -50,18 +53,18 @@ AreUpToDate e made =
 
 -- ---- the headline
 
--- States what holds in each state that events lead to.
+-- states the guarantees for a state to which events lead
 pub record Holds (w : ClientAndServer) : Type 0 where
   -- each applied edit keeps the run
   pub applied : All KeepsTheRun w.applied
-  -- diagnostics are empty exactly when the text that they were made for is a well-typed module
+  -- each published list is empty exactly when the text that it was made for is a well-typed module
   pub made : All IsRight w.made
-  -- when no message waits for the server, the latest diagnostics of each open document were made for
-  -- its present text
+  -- If no message waits for the server, the latest diagnostics of each open document were made for
+  -- its present text.
   pub latest_made : w.to_server ≡ [] → AreUpToDate w.editor w.made
 
--- States that a list of events, from the beginning, leads to these applied edits and these
--- publications, in this order.
+-- States that a list of events, from the start, leads to one state, and that this state has these
+-- applied edits and these publications, in this order. The guarantees hold in it.
 pub record Headline (unit : Unit) (events : List Event) (applied : List Applied)
     (made : List Made) : Type 0 where
   pub end : ClientAndServer

@@ -15,13 +15,13 @@ use Rattle.ob0_language_types.specs.WellTyped.{WellTyped}
 use Rattle.ob0_language_runs.specs.EditLaws.{SameRuns}
 use Rattle.ob0_edits.specs.Texts.{utf8}
 
--- a lexeme as a tree spells it, which leaves white space and comments out
+-- returns a lexeme as a tree spells it: white space and comments as nothing, a token as itself
 abbrev pub terminals : LexemeKind → List ℕ → List (Terminal Name)
 terminals lexeme.Space text = []
 terminals lexeme.Comment text = []
 terminals (lexeme.Token kind) text = kind_lexeme text kind ∷ []
 
--- these bytes are the text of a module, which has this tree
+-- states that these bytes are the text of a module with this tree
 pub record IsModuleText (tree : Tree Name module_text) (bytes : List ℕ) : Type 0 where
   pub utf8 : IsUtf8 bytes
   pub lexemes : List Lexeme
@@ -32,14 +32,14 @@ pub record IsModuleText (tree : Tree Name module_text) (bytes : List ℕ) : Type
 
 -- In the rest of this file a text is a list of characters.
 
--- the text is a module, and its tree is well-typed (LANGUAGE.md, Scopes and Types)
+-- states that the text is a module whose tree is well-typed (LANGUAGE.md, Scopes and Types)
 pub record WellTypedText (text : List ℕ) : Type 0 where
   pub tree : Tree Name module_text
   pub text_of : IsModuleText tree (utf8 text)
   pub well_typed : WellTyped tree
 
--- The modules of these texts output the same and end alike, for every input and all bounds on calls
--- and on the iterations of a loop (LANGUAGE.md, Runs).
+-- Holds if the modules of these two texts output the same and end alike. That is for every input,
+-- and for all bounds on calls and on the iterations of a loop (LANGUAGE.md, Runs).
 abbrev pub SameRun : List ℕ → List ℕ → Type 0
 SameRun a b =
     (before after : Tree Name module_text)

@@ -1,4 +1,4 @@
--- States laws of the definitions of client and server.
+-- States laws about the definitions of client and server.
 -- Rule: none; laws of the model of client and server.
 use Rattle.std.specs.Prelude.{◌≡◌, ◌↔◌, ⊤, ℕ, List, All, Some}
 use Rattle.ob0_text.specs.declared.edits.Edit.{Edit}
@@ -18,7 +18,8 @@ use Rattle.ob0_world_rules.specs.Mirror.{Mirrors}
 
 -- ---- texts
 
--- states that a text has a tree by its lexemes exactly if it has it by the parsed tokens
+-- states that a text has a given tree by its lexemes exactly if it has that tree by the parsed
+-- tokens
 abbrev pub OneReading : Type 0
 OneReading =
     (tree : Tree Name module_text) (bytes : List ℕ)
@@ -26,8 +27,7 @@ OneReading =
 
 -- ---- answers
 
--- states that the edits, at positions of a unit, make a well-typed module with the same run of this
--- text
+-- states that these edits, with positions in this unit, make a well-typed module with the same run
 pub record EditsPreserveRun (unit : Unit) (text : List ℕ) (edits : List Replacement) : Type 0 where
   pub before_fits : WellTypedText text
   pub after : List ℕ
@@ -35,14 +35,14 @@ pub record EditsPreserveRun (unit : Unit) (text : List ℕ) (edits : List Replac
   pub after_fits : WellTypedText after
   pub same : SameRun text after
 
--- states that edits that answer an ask keep the run of the text
+-- states that the edits that answer an ask keep the run of the text
 abbrev pub EditsKeepTheRun : Type 0
 EditsKeepTheRun =
     (unit : Unit) (text : List ℕ) (ask : Ask) (edits : List Edit)
     → GivesEdits unit text ask edits
     → EditsPreserveRun unit text (replacements edits)
 
--- states that an ask about a text has one answer
+-- states that two answers to one ask about one text are equal
 abbrev pub AnswersAreOne : Type 0
 AnswersAreOne =
     (unit : Unit) (text : List ℕ) (ask : Ask) (given other : List Replacement)
@@ -52,7 +52,7 @@ AnswersAreOne =
 
 -- ---- events
 
--- states that an event leads to one state
+-- states that two states to which one event leads are equal
 abbrev pub OneStep : Type 0
 OneStep =
     (w : ClientAndServer) (event : Event) (new other : ClientAndServer)
@@ -60,8 +60,8 @@ OneStep =
     → Happens w event other
     → new ≡ other
 
--- states that two courses of one list of events have one end: documents, queues, applied edits and
--- publications
+-- States that two courses of one list of events end in the same state. That state includes
+-- documents, queues, applied edits and publications.
 abbrev pub OneCourse : Type 0
 OneCourse =
     (w : ClientAndServer) (events : List Event) (end other : ClientAndServer)
@@ -69,13 +69,13 @@ OneCourse =
     → Course w events other
     → end ≡ other
 
--- states that for each text it can't be that nothing answers this ask
+-- holds if it can't be, for any text, that the ask has no answer
 abbrev pub HasAnswers : Ask → Type 0
 HasAnswers ask =
     (unit : Unit) (text : List ℕ)
     → ¬ ((given : List Replacement) → ¬ AnswersFor unit text ask given)
 
--- states that the ask of this event, if it is one, has answers
+-- holds if the event isn't an ask, or is an ask that has answers
 abbrev pub IsAnswerable : Event → Type 0
 IsAnswerable (does (open_document uri text)) = ⊤
 IsAnswerable (does (change_document uri how)) = ⊤
@@ -86,26 +86,25 @@ IsAnswerable (does (discard k)) = ⊤
 IsAnswerable serve = ⊤
 IsAnswerable take_message = ⊤
 
--- States that it can't be that a list of events has no course, if its asks have answers. So a law of
--- every course is a law of at least one.
+-- States that if its asks have answers, it can't be that a list of events has no course. So a law
+-- about every course is about at least one.
 abbrev pub ACourseFits : Type 0
 ACourseFits =
     (unit : Unit) (events : List Event)
     → All IsAnswerable events
     → ¬ ((end : ClientAndServer) → ¬ Course (start unit) events end)
 
--- states that `Holds` is true of each state that a list of events leads to
+-- states that `Holds` is true in each state to which a list of events leads
 abbrev pub InEveryInterleaving : Type 0
 InEveryInterleaving =
     (u : Unit) (events : List Event) (w : ClientAndServer) → Course (start u) events w → Holds w
 
--- states that the server's documents, after it has taken all messages that wait for it, are the
--- editor's
+-- states that the server has the editor's documents once it has taken all messages that wait for it
 abbrev pub ServerMirrors : Type 0
 ServerMirrors =
     (u : Unit) (events : List Event) (w : ClientAndServer) → Course (start u) events w → Mirrors w
 
--- states that each publication was made for a text that the editor had
+-- states that each publication was made for a text that the editor's document had at its version
 abbrev pub MadeForTheEditor : Type 0
 MadeForTheEditor =
     (unit : Unit) (events : List Event) (end : ClientAndServer)

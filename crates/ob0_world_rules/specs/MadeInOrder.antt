@@ -1,5 +1,5 @@
--- The order of publications: each is made for the next document
--- that the editor announced to the server.
+-- Defines the order of publications: each is made for the next document that the editor announced
+-- to the server.
 -- Rule: docs/PROTOCOL.md, Publishing 1.
 use Rattle.std.specs.Prelude.{◌≡◌, ⊤, ℕ, ℤ, pos, List, [], ◌∷◌, ◌++◌, map, Option, Some, None}
 use Rattle.std.specs.List.{flat_map}
@@ -11,17 +11,17 @@ use Rattle.ob0_world_rules.specs.Happens.{Event, does, serve, take_message, Happ
 
 -- ---- the documents that the editor announced
 
--- a document with the state in which the editor announced it to the server
+-- a document in the state in which the editor announced it to the server
 pub record Announced : Type 0 where
   pub uri : List ℕ
   pub document : Open
 
--- returns the document at this uri, if it is open
+-- returns the document with this uri in a list, or an empty list if it isn't open
 abbrev pub announced_at : List ℕ → Option Open → List Announced
 announced_at uri (Some d) = record { uri = uri; document = d } ∷ []
 announced_at uri None = []
 
--- returns the editor's document whose text the message announces, if there is one
+-- returns the editor's document whose text the message announces, or an empty list if there is none
 abbrev pub announced_by : Editor → ToServer → List Announced
 announced_by e (notifies (Opened uri version text)) = announced_at uri (open_at e uri)
 announced_by e (notifies (Changed uri version how)) = announced_at uri (open_at e uri)
@@ -29,18 +29,19 @@ announced_by e (notifies (Lost uri)) = []
 announced_by e (notifies (Closed uri)) = []
 announced_by e (requests number uri ask) = []
 
--- returns the documents that messages of this editor announce
+-- returns the documents that this editor announces by these messages
 abbrev pub announced_in : Editor → List ToServer → List Announced
 announced_in e messages = flat_map (announced_by e) messages
 
--- returns the documents that this event announces
+-- returns the documents that the editor announces in this event
 abbrev pub announced_at_event : ClientAndServer → Event → List Announced
 announced_at_event w (does act) =
     let done : Done = done_by w.editor act in announced_in done.editor done.sent
 announced_at_event w serve = []
 announced_at_event w take_message = []
 
--- states that the course of these events announces exactly these documents, in this order
+-- holds if the editor announces exactly these documents, in this order, in the course of these
+-- events
 abbrev pub AreAnnounced : ClientAndServer → List Event → List Announced → Type 0
 AreAnnounced w [] announced = announced ≡ []
 AreAnnounced w (event ∷ events) announced =
@@ -52,11 +53,11 @@ AreAnnounced w (event ∷ events) announced =
 
 -- ---- what is published
 
--- states that the publication is made for this document: its uri, version and text
+-- holds if the publication is made for this document: its uri, version and text
 abbrev pub IsMadeOf : Made → Announced → Type 0
 IsMadeOf m t = (m.uri ≡ t.uri) × (m.version ≡ pos t.document.version) × (m.text ≡ t.document.text)
 
--- states that there are as many publications as documents, the n-th made for the n-th
+-- holds if there are as many publications as documents, and the n-th is made for the n-th document
 abbrev pub AreMadeOf : List Made → List Announced → Type 0
 AreMadeOf [] [] = ⊤
 AreMadeOf (m ∷ made) (t ∷ announced) = IsMadeOf m t × AreMadeOf made announced
@@ -76,7 +77,7 @@ abbrev pub named_in : List ToServer → List (List ℕ × ℤ)
 named_in [] = []
 named_in (message ∷ queue) = versions_announced message ++ named_in queue
 
--- returns the uri and the version of a document
+-- returns a document's uri and version
 abbrev pub versioned_uri : Announced → List ℕ × ℤ
 versioned_uri t = (t.uri, pos t.document.version)
 

@@ -1,4 +1,5 @@
--- States that the server, after it has taken the messages that wait for it, has the editor's documents.
+-- States that once the server has taken the messages that wait for it, it has the editor's
+-- documents.
 -- Rule: none; a law of the model of client and server.
 use Rattle.std.specs.Prelude.{◌≡◌, ℕ, pos, List, option_map, fold}
 use Rattle.ob0_text.specs.OpenDocuments.{OpenDocuments, Document, InStep, document_at}
@@ -8,11 +9,11 @@ use Rattle.ob0_world_rules.specs.ClientAndServer.{Open, open_at, ClientAndServer
 abbrev pub will_have : ClientAndServer → OpenDocuments
 will_have w = fold after_message w.held w.to_server
 
--- returns a document of the editor as the server has it
+-- returns an open document of the editor as the server has it: in step, with its version and text
 abbrev pub as_open : Open → Document
 as_open d = InStep (pos d.version) d.text
 
--- States the mirror: the server's documents, after the messages that wait for it, are the editor's.
+-- Holds if the server has the editor's documents once it has taken the messages that wait for it.
 abbrev pub Mirrors : ClientAndServer → Type 0
 Mirrors w =
     (uri : List ℕ) → document_at (will_have w) uri ≡ option_map as_open (open_at w.editor uri)

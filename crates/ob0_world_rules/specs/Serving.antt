@@ -1,5 +1,4 @@
--- Defines the messages that the server sends for each message that it takes. Each message has one list
--- of replies.
+-- Defines the messages that the server sends for each message that it takes.
 -- Rule: docs/PROTOCOL.md, Documents, Publishing, Requests on documents.
 use Rattle.std.specs.Prelude.{◌≡◌, ℕ, List, [], ◌∷◌, Bool, true, Option, Some, None, is_some, if◌then◌else◌}
 use Rattle.ob0_text.specs.OpenDocuments.{OpenDocuments, Document, InStep, OutOfStep, DocumentEvent, Opened, Changed, Lost, Closed, document_at, after_event}
@@ -7,7 +6,8 @@ use Rattle.ob0_world_rules.specs.Edited.{Replacement}
 use Rattle.ob0_world_rules.specs.Answers.{IsAnswer, IsEmptyIfCorrect}
 use Rattle.ob0_world_rules.specs.ClientAndServer.{ToServer, notifies, requests, ToEditor, publishes, answers, Made}
 
--- a document in step is published, with its version
+-- Holds if the server sends diagnostics with the version for a document in step, and sends nothing
+-- for any other. `made` has the same publication, with the text that it was made for.
 abbrev pub Publishes : List ℕ → Option Document → List ToEditor → List Made → Type 0
 Publishes uri (Some (InStep version text)) sent made =
     (empty : Bool) × IsEmptyIfCorrect text empty × (sent ≡ publishes uri (Some version) empty ∷ [])
@@ -15,8 +15,9 @@ Publishes uri (Some (InStep version text)) sent made =
 Publishes uri (Some OutOfStep) sent made = (sent ≡ []) × (made ≡ [])
 Publishes uri None sent made = (sent ≡ []) × (made ≡ [])
 
--- States which messages, and which publications with a version among them, answer a notification when
--- these documents were open before. Closing an open document clears its diagnostics.
+-- Holds if the server replies to a notification by these messages, with these publications among
+-- them. `held` are the documents that were open before. Closing an open document clears its
+-- diagnostics.
 abbrev pub RepliesToNotification : OpenDocuments
     → DocumentEvent
     → List ToEditor
@@ -31,7 +32,7 @@ RepliesToNotification held (Closed uri) sent made =
     (sent ≡ (if is_some (document_at held uri) then publishes uri None true ∷ [] else []))
     × (made ≡ [])
 
--- states which messages, and which publications with a version among them, answer a message
+-- holds if the server replies to a message by these messages, with these publications among them
 abbrev pub Replies : OpenDocuments → ToServer → List ToEditor → List Made → Type 0
 Replies held (notifies note) sent made = RepliesToNotification held note sent made
 Replies held (requests number uri ask) sent made =

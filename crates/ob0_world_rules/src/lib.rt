@@ -1,4 +1,5 @@
-//! Client and server with a queue of messages in each direction: definitions, and what every list of events keeps.
+//! Defines a client and a server with a queue of messages in each direction, and proves what every list of events
+//! keeps.
 #![tactic(auto)]
 
 pub mod editor_laws;

@@ -6,8 +6,8 @@ use Rattle.ob0_scope_table.specs.Resolution.{Resolution}
 use Rattle.ob0_language_names.specs.Scopes.{same_ordinal}
 use Rattle.ob0_inline.proofs.shadowing.any_elsewhere.Given as goal
 
--- true if an occurrence is bound to the constant, and by the list the name would be bound to
--- another declaration there
+-- true if an occurrence is bound to the constant, and the list binds the name to another
+-- declaration there
 abbrev pub elsewhere : Resolution → List (Option ℕ) → ℕ → ℕ → ℕ → Bool
 elsewhere r bound constant ordinal k = same_ordinal (binds (named_tree_of r.module_read) k) constant && not (same_ordinal (option_and_then (λ found. found) (slice_get bound k)) ordinal)
 

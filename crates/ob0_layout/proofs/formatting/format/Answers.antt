@@ -24,7 +24,7 @@ use Rattle.ob0_layout.proofs.formatting.format.Goals as goal
 abbrev changed_in : Indent → List LineRole → (s : Scanned) → IsScan s → List Cut
 changed_in indent ss s scan = changed_gaps s.text (all_gaps indent s.text ss scan.lexemes)
 
--- the gaps that the code found are the gaps of the source
+-- The gaps that the code found are the gaps of the source.
 of_source : {s t : Scanned} (e : s ≡ t) (indent : Indent) (found read : List GapSite) (ss is : List LineRole) → read ≡ found → ss ≡ is → ((scan : IsScan s) → map (gap_cut indent) found ≡ changed_in indent ss s scan) → (scan : IsScan t) → map (gap_cut indent) read ≡ changed_in indent is t scan
 of_source e indent found read ss is r f h = λ scan.
     ap (map (gap_cut indent)) r ∙ subst (λ (x : Scanned). (scan : IsScan x) → map (gap_cut indent) found ≡ changed_in indent ss x scan) e h scan ∙ ap (λ xs. changed_in indent xs _ scan) f
@@ -35,7 +35,7 @@ lie_in_source {t = t} e indent len read is scan long h =
     let lie = sites_lie t.text indent 0 read (subst (AreGaps t.text 0) (sym (h there)) (all_changed_are indent t there is)) in
     subst (λ (n : ℕ). All (LiesIn n) read) (sym long) lie
 
--- the counted length is the length of the formatted text
+-- The counted length is the length of the formatted text.
 counted : (m : Parsed) (indent : Indent) (scan : IsScan m.source) → laid_len (length m.source.text) 0 (changed_in indent (line_roles 0 (tree_of m)) m.source scan) ≡ length (layout indent (named_tree_of m) scan.lexemes)
 unfolding laid_out
 counted m indent scan =

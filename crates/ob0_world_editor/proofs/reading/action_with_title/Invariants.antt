@@ -3,6 +3,6 @@ use Rattle.serde_json.specs.View.{items_view}
 use Rattle.ob0_world_editor.specs.Understood.{titled_action}
 use Rattle.ob0_world_editor.proofs.reading.action_with_title.Given as goal
 
--- the action is among those that are left
+-- the first action with the title is the first among the remaining actions
 abbrev pub invariant-loop-action : goal.invariant-loop-action
 invariant-loop-action l = titled_action l.title (items_view l.actions) ≡ titled_action l.title (items_view (drop l.action-index l.actions))

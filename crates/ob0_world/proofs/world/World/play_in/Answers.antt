@@ -6,7 +6,7 @@ use Rattle.ob0_world.proofs.world.World.play_in.Goals as goal
 use Rattle.ob0_world.proofs.Courses.{plays, plays_nothing, plays_before, course_more, come_before, passed_before}
 use Rattle.ob0_world.proofs.Stepping.{step_made, step_failed}
 
--- memory ran out before the first event
+-- If memory runs out before the first event, the code returns no results.
 pub returns-in-Err-clause-err : goal.returns-in-Err-clause-err
 returns-in-Err-clause-err g c =
     let none = c.nothing_played.ensures in
@@ -15,7 +15,7 @@ returns-in-Err-clause-err g c =
 pub loop-event-init : goal.loop-event-init
 loop-event-init g c = (c.in-Ok.world.connection, c.in-Ok.ensures.start.begins, refl, c.in-Ok.ensures.start.none, c.in-Ok.ensures.start.goes_on)
 
--- memory ran out at an event: what had come of those before is returned
+-- If memory runs out at an event, the code returns the results of the events before it.
 pub returns-in-Err-step-clause-err : goal.returns-in-Err-step-clause-err
 returns-in-Err-step-clause-err g c =
     let i = c.loop-event.invariant in

@@ -3,7 +3,7 @@ use Rattle.ob0_world.specs.Code.{event_of}
 use Rattle.ob0_world.specs.Worlds.{Connection, Begins, ConnectionCourse}
 use Rattle.ob0_world.proofs.world.World.play_in.Given as goal
 
--- the world is what the events so far have made of its beginning
+-- the world is the result of the events so far, from its beginning
 abbrev pub invariant-loop-event : goal.invariant-loop-event
 invariant-loop-event g l =
     (begin : Connection)
