@@ -145,6 +145,19 @@ def anew() -> None:
         same([it for it in found.called if it.startswith("rt ci")], [wanted], f"with a kit that has {known!r}")
 
 
+@test("whole: no word and no variable of `make test` says which mutants it tries")
+def no_choice() -> None:
+    # (`try_some` is given the libraries and nothing else)
+    found = whole(flags=("--part", "3", "--all", "ob0_text"))
+    same((found.status, [it for it in found.called if it.startswith("rt ci")]), (0, ["rt ci"]), found.said)
+    own = {name: value for name, value in os.environ.items() if not name.startswith("MAKE")}
+    runs = []
+    for given in ("", "PART=3 ALL=1 CRATE=ob0_text WORDS=--part"):
+        words = ["make", "--dry-run", "--no-print-directory", "PYTHON=python3", "test", *given.split()]
+        runs.append(subprocess.run(words, cwd=TOP, stdout=subprocess.PIPE, stderr=subprocess.STDOUT, env=own, check=False).stdout.decode())
+    same([it.splitlines()[-1].strip() for it in runs], ["python3 tools/test.py"] * 2, "what is run")
+
+
 @test("whole: the least numbers of tests are near those of the present ones")
 def least() -> None:
     spec = importlib.util.spec_from_file_location("whole", os.path.join(TOP, "tools", "test.py"))
