@@ -19,7 +19,7 @@ from typing import Any
 import harness
 from common import match_of
 from harness import TOP, Server, did_open, holds, is_running, need_program, run, same, test, text_of
-from homes import run_plainly, temporary, write
+from homes import as_another, run_plainly, temporary, write
 
 FOLDER = os.path.join("examples", "exercises")
 PAGE = text_of(FOLDER, "README.md")
@@ -308,8 +308,6 @@ def any_names() -> None:
 
 @test("exercises: a folder or a file that can't be read is said, and the others are marked")
 def unreadable() -> None:
-    if os.geteuid() == 0 and not shutil.which("setpriv"):
-        harness.leave_out("it wants setpriv, to be another user than root")
     with temporary() as room:
         # (another user than root may not enter the checkout, so the script and the program are copied)
         for name in ("mark.py", "README.md", *(f"{it}.txt" for it in NAMES)):
@@ -319,8 +317,8 @@ def unreadable() -> None:
             write(os.path.join(room, name, "Reverse.mod"), "")
         for name, mode in (("", 0o755), ("ob0", 0o755), ("b", 0)):
             os.chmod(os.path.join(room, name), mode)
-        another = ["setpriv", "--reuid=65534", "--clear-groups"] if os.geteuid() == 0 else []
-        status, said = run_plainly([*another, "python3", "-B", "mark.py", "--program", "./ob0", "a", "b", "b/Reverse.mod", "c"], dict(os.environ), room)
+        words = ["python3", "-B", "mark.py", "--program", "./ob0", "a", "b", "b/Reverse.mod", "c"]
+        status, said = run_plainly([*as_another(), *words], dict(os.environ), room)
         os.chmod(os.path.join(room, "b"), 0o755)
     wrong = "  Reverse.mod wrong: for the input 3 10 20 30: line 1 should be 30 20 10, and is empty"
     missing = f"  0 of 12 right; not there: {', '.join(it for it in NAMES if it != 'Reverse')}"
