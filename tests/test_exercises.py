@@ -3,6 +3,7 @@
 The right answers are in tests/answers; each wrong one is a right one with one change."""
 from __future__ import annotations
 
+import contextlib
 import csv
 import io
 import itertools
@@ -355,6 +356,43 @@ def signalled() -> None:
             same((process.returncode, err), (-number, b""), "how the script ends")
             holds(not is_running(int(text_of(pid))), f"the module goes on after signal {number}")
             os.unlink(pid)
+
+
+# Runs a script in which a signal comes as soon as a process has been started, before the script knows it.
+AT_START = """
+import os, runpy, subprocess, sys
+number, execute = int(sys.argv[1]), subprocess.Popen._execute_child
+def started(self, *words):
+    execute(self, *words)
+    os.kill(os.getpid(), number)
+subprocess.Popen._execute_child = started
+sys.argv = sys.argv[2:]
+runpy.run_path(sys.argv[0], run_name="__main__")
+"""
+
+
+def working_in(folder: str) -> list[str]:
+    """The processes that work in a folder."""
+    found = []
+    for it in filter(str.isdigit, os.listdir("/proc")):
+        with contextlib.suppress(OSError):
+            found += [it] if os.readlink(f"/proc/{it}/cwd") == folder else []
+    return found
+
+
+@test("exercises: a signal that comes while a module is started ends it too")
+def signalled_at_start() -> None:
+    with temporary() as room:
+        write(os.path.join(room, "Clock.mod"), answer("Clock"))
+        write(os.path.join(room, "ob0"), "#!/bin/sh\nexec sleep 600\n")
+        os.chmod(os.path.join(room, "ob0"), 0o755)
+        for number in (signal.SIGINT, signal.SIGTERM, signal.SIGHUP):
+            words = ["python3", "-B", "-c", AT_START, str(int(number)), os.path.join(TOP, FOLDER, "mark.py"), "--program", "./ob0", *LONGEST, "Clock.mod"]
+            ended = subprocess.run(words, cwd=room, stdout=subprocess.DEVNULL, stderr=subprocess.PIPE, timeout=harness.SECONDS, check=False)
+            left = working_in(os.path.realpath(room))
+            for it in left:
+                os.kill(int(it), signal.SIGKILL)
+            same((ended.returncode, ended.stderr, left), (-number, b"", []), f"how the script ends after signal {number}, and what goes on")
 
 
 @test("exercises: a number of seconds is one above 0")
