@@ -382,12 +382,13 @@ def working_in(folder: str) -> list[str]:
 
 @test("exercises: a signal that comes while a module is started ends it too")
 def signalled_at_start() -> None:
+    script = os.path.join(TOP, FOLDER, "mark.py")
     with temporary() as room:
         write(os.path.join(room, "Clock.mod"), answer("Clock"))
         write(os.path.join(room, "ob0"), "#!/bin/sh\nexec sleep 600\n")
         os.chmod(os.path.join(room, "ob0"), 0o755)
         for number in (signal.SIGINT, signal.SIGTERM, signal.SIGHUP):
-            words = ["python3", "-B", "-c", AT_START, str(int(number)), os.path.join(TOP, FOLDER, "mark.py"), "--program", "./ob0", *LONGEST, "Clock.mod"]
+            words = ["python3", "-B", "-c", AT_START, str(int(number)), script, "--program", "./ob0", *LONGEST, "Clock.mod"]
             ended = subprocess.run(words, cwd=room, stdout=subprocess.DEVNULL, stderr=subprocess.PIPE, timeout=harness.SECONDS, check=False)
             left = working_in(os.path.realpath(room))
             for it in left:
