@@ -26,7 +26,7 @@ import tempfile
 import time
 import traceback
 from collections.abc import Iterator
-from typing import Dict, List, NamedTuple, Optional, Tuple
+from typing import List, NamedTuple, Optional, Tuple
 
 sys.dont_write_bytecode = True
 HERE = os.path.dirname(os.path.abspath(__file__))

@@ -10,7 +10,7 @@ from unittest import mock
 
 import editors
 import harness
-from harness import Ended, Failed, holds, same, test
+from harness import Failed, holds, same, test
 from homes import temporary, write
 
 

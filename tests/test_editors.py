@@ -17,6 +17,7 @@ import shutil
 import zipfile
 from collections.abc import Iterator
 from typing import Any, Callable, Dict, List, Tuple, Type, TypeVar
+from unittest import mock
 
 import harness
 import holding
@@ -725,6 +726,38 @@ def by_keys(does: Callable[[Any], T], which: Which, text: str, *names: str) -> T
     harness.need_program()
     with temporary() as folder, which(folder, text) as editor:
         return does(editor)
+
+
+class Deaf(keyed.Keyed):
+    """An editor whose server never gets its text."""
+
+    opened = 0
+
+    def __init__(self, folder: str, text: str) -> None:  # pylint: disable=super-init-not-called
+        Deaf.opened += 1
+        self.wire, self.screen = mock.MagicMock(), mock.MagicMock(drawn=b"")
+
+    def __enter__(self) -> Deaf:
+        return self
+
+    def waits(self, holds: Callable[[], object], seconds: float = 0) -> bool:
+        return bool(holds())
+
+
+@test("editors: a server that never gets the editor's text is a failure, and no test tries again by itself")
+def not_again() -> None:
+    played = mock.Mock(side_effect=Failed("no key was taken"))
+    Deaf.opened = 0
+    never: Callable[[keyed.Keyed], None] = lambda editor: editor.reports("a text")
+    tests: Dict[str, harness.Test] = {"by keys": lambda: by_keys(never, Deaf, LATE, "Deaf"), "Kate": lambda: in_kate("names", LATE)}
+    with mock.patch.object(harness, "need_program"), mock.patch.dict(globals(), {"play": played, "want": mock.Mock()}):
+        for what, does in tests.items():
+            try:
+                does()
+            except Failed:
+                continue
+            raise Failed(f"{what}: it passes")
+    same((Deaf.opened, played.call_count), (1, 1), "how often each was tried")
 
 
 def late_answers(which: Which, *names: str) -> None:

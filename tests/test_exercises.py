@@ -3,6 +3,7 @@
 The right answers are in tests/answers; each wrong one is a right one with one change."""
 from __future__ import annotations
 
+import contextlib
 import csv
 import io
 import itertools
@@ -19,7 +20,7 @@ from typing import Any
 import harness
 from common import match_of
 from harness import TOP, Server, did_open, holds, is_running, need_program, run, same, test, text_of
-from homes import run_plainly, temporary, write
+from homes import as_another, run_plainly, temporary, write
 
 FOLDER = os.path.join("examples", "exercises")
 PAGE = text_of(FOLDER, "README.md")
@@ -308,8 +309,6 @@ def any_names() -> None:
 
 @test("exercises: a folder or a file that can't be read is said, and the others are marked")
 def unreadable() -> None:
-    if os.geteuid() == 0 and not shutil.which("setpriv"):
-        harness.leave_out("it wants setpriv, to be another user than root")
     with temporary() as room:
         # (another user than root may not enter the checkout, so the script and the program are copied)
         for name in ("mark.py", "README.md", *(f"{it}.txt" for it in NAMES)):
@@ -319,8 +318,8 @@ def unreadable() -> None:
             write(os.path.join(room, name, "Reverse.mod"), "")
         for name, mode in (("", 0o755), ("ob0", 0o755), ("b", 0)):
             os.chmod(os.path.join(room, name), mode)
-        another = ["setpriv", "--reuid=65534", "--clear-groups"] if os.geteuid() == 0 else []
-        status, said = run_plainly([*another, "python3", "-B", "mark.py", "--program", "./ob0", "a", "b", "b/Reverse.mod", "c"], dict(os.environ), room)
+        words = ["python3", "-B", "mark.py", "--program", "./ob0", "a", "b", "b/Reverse.mod", "c"]
+        status, said = run_plainly([*as_another(), *words], dict(os.environ), room)
         os.chmod(os.path.join(room, "b"), 0o755)
     wrong = "  Reverse.mod wrong: for the input 3 10 20 30: line 1 should be 30 20 10, and is empty"
     missing = f"  0 of 12 right; not there: {', '.join(it for it in NAMES if it != 'Reverse')}"
@@ -357,6 +356,44 @@ def signalled() -> None:
             same((process.returncode, err), (-number, b""), "how the script ends")
             holds(not is_running(int(text_of(pid))), f"the module goes on after signal {number}")
             os.unlink(pid)
+
+
+# Runs a script in which a signal comes as soon as a process has been started, before the script knows it.
+AT_START = """
+import os, runpy, subprocess, sys
+number, execute = int(sys.argv[1]), subprocess.Popen._execute_child
+def started(self, *words):
+    execute(self, *words)
+    os.kill(os.getpid(), number)
+subprocess.Popen._execute_child = started
+sys.argv = sys.argv[2:]
+runpy.run_path(sys.argv[0], run_name="__main__")
+"""
+
+
+def working_in(folder: str) -> list[str]:
+    """The processes that work in a folder."""
+    found = []
+    for it in filter(str.isdigit, os.listdir("/proc")):
+        with contextlib.suppress(OSError):
+            found += [it] if os.readlink(f"/proc/{it}/cwd") == folder else []
+    return found
+
+
+@test("exercises: a signal that comes while a module is started ends it too")
+def signalled_at_start() -> None:
+    script = os.path.join(TOP, FOLDER, "mark.py")
+    with temporary() as room:
+        write(os.path.join(room, "Clock.mod"), answer("Clock"))
+        write(os.path.join(room, "ob0"), "#!/bin/sh\nexec sleep 600\n")
+        os.chmod(os.path.join(room, "ob0"), 0o755)
+        for number in (signal.SIGINT, signal.SIGTERM, signal.SIGHUP):
+            words = ["python3", "-B", "-c", AT_START, str(int(number)), script, "--program", "./ob0", *LONGEST, "Clock.mod"]
+            ended = subprocess.run(words, cwd=room, stdout=subprocess.DEVNULL, stderr=subprocess.PIPE, timeout=harness.SECONDS, check=False)
+            left = working_in(os.path.realpath(room))
+            for it in left:
+                os.kill(int(it), signal.SIGKILL)
+            same((ended.returncode, ended.stderr, left), (-number, b"", []), f"how the script ends after signal {number}, and what goes on")
 
 
 @test("exercises: a number of seconds is one above 0")

@@ -5,10 +5,12 @@ from __future__ import annotations
 import contextlib
 import io
 import os
+import random
+import re
 import shutil
 import sys
 import tempfile
-from typing import Dict, Iterable, Iterator, List, Optional, Tuple
+from typing import Callable, Dict, Iterable, Iterator, List, Optional, Tuple
 from unittest import mock
 
 import build
@@ -19,7 +21,7 @@ import mutants
 import reading
 import verdicts
 from checks import Said
-from harness import TOP, holds, same, test
+from harness import TOP, Failed, holds, same, test, want
 
 MUTANT = "units_are_characters"
 GOAL = "note: src/passes.rt:120:1: it is not proved that what the function ensures holds when it returns (`returns-in-Utf16`)\n"
@@ -229,12 +231,82 @@ def rows() -> None:
     same([it.path for it in verdicts.rows_of(verdicts.PATH)], sorted(found.edits), "its lines (tools/mutants.py writes them)")
 
 
-@test("mutants: each is in one of the parts that `make test` tries by the commit's hash")
+@test("mutants: each is in one of the parts of which `make test` tries two")
 def parts() -> None:
-    paths = [f"{at:03}" for at in range(947)]
-    found = [mutants.part_of(paths, number) for number in range(mutants.PARTS)]
-    same([it for part in found for it in part], paths, "all parts")
-    same({len(it) for it in found}, {23, 24}, "their sizes")
+    for paths in ([f"{at:03}" for at in range(947)], ["b", "a"], [it.path for it in verdicts.rows_of(verdicts.PATH)]):
+        found = [mutants.part_of(paths, number) for number in range(1, mutants.PARTS + 1)]
+        same([it for part in found for it in part], sorted(paths), "all parts")
+        same(len({len(it) for it in found}), 2, "how many sizes they have")
+
+
+class Unread(Dict[str, str]):
+    """Variables of the environment that nobody may read."""
+
+    def __getitem__(self, name: str) -> str:
+        raise Failed(f"{name} was read")
+
+    get = __contains__ = __iter__ = __getitem__  # type: ignore[assignment]
+
+
+@test("mutants: the second part is drawn anew in each run, and neither the commit nor the environment says which")
+def part_drawn() -> None:
+    for commit in ("0", "4f" * 20, f"{mutants.PARTS - 1:x}"):
+        with mock.patch.object(common, "commit", lambda: commit):  # pylint: disable=cell-var-from-loop
+            own = {mutants.part_of_commit() for _ in range(3)}
+        same(own, {int(commit, 16) % mutants.PARTS + 1}, "the commit's part")
+        with mock.patch.object(os, "environ", Unread()):
+            runs = []
+            for _ in range(2):
+                random.seed(0)
+                runs.append([mutants.drawn_part(*own) for _ in range(60)])
+        holds(runs[0] != runs[1], f"both times {runs[0]} was drawn")
+        drawn = {it for run in runs for it in run}
+        holds(len(drawn) > 20 and not own & drawn and drawn <= {*range(1, mutants.PARTS + 1)}, f"beside {own} these were drawn: {drawn}")
+
+
+def tried_by(function: Callable[[], object]) -> Tuple[List[str], str]:
+    """The paths of the mutants that a run would try, sorted, and what it prints."""
+    tried: List[str] = []
+
+    def note(run: mutants.Run, *_: object) -> None:
+        tried.extend(it.path for crate in run.crates for it in crate.chosen)
+
+    with mock.patch.object(mutants.Run, "try_all", note), mock.patch.object(build, "prove_libraries", lambda names: 0):
+        with mock.patch.object(mutants, "libraries_of", lambda names: None), contextlib.redirect_stdout(io.StringIO()) as said:
+            function()
+    return sorted(tried), said.getvalue()
+
+
+@test("mutants: `make test` tries the commit's part and the drawn one, and prints the words that try them again")
+def parts_again() -> None:
+    found = verdicts.Mutants()
+    with mock.patch.object(mutants, "Mutants", lambda: found):
+        tried, said = tried_by(lambda: mutants.try_some(mutants.Libraries("no folder")))
+        numbers = re.findall(r"--part (\d+)", said)
+        same(numbers[:1], [str(mutants.part_of_commit())], said)
+        same((len(numbers), len(tried)), (2, int(common.match_of(r"(\d+) of \d+ mutants", said)[1])), said)
+        same(tried_by(lambda: mutants.main([it for number in numbers for it in ("--part", number)]))[0], tried, "those that are tried again")
+        for words in (["--part", "0"], ["--part", str(mutants.PARTS + 1)], ["--part", "1", "ob0_text"], ["--part", "1", "--all"]):
+            with contextlib.redirect_stderr(io.StringIO()) as wrong:
+                try:
+                    mutants.main(words)
+                except SystemExit as why:
+                    same(why.code, 2, f"the status of {words}")
+                else:
+                    raise Failed(f"{words} were taken")
+            holds(f"--part takes 1 to {mutants.PARTS}" in wrong.getvalue(), wrong.getvalue())
+
+
+@test("mutants: the commit's hash is that of this repository, whatever the variables of git say")
+def of_this_repository() -> None:
+    want("git")
+    found = common.commit()
+    with mock.patch.dict(os.environ, {"GIT_DIR": "/no/such/folder", "GIT_CONFIG_COUNT": "x"}):
+        same(common.commit(), found, "with other variables")
+    with mock.patch.object(common, "TOP", tempfile.gettempdir()):
+        same(common.commit(), "0", "outside a repository")
+    with mock.patch.object(shutil, "which", lambda name: None):
+        same(common.commit(), "0", "without git")
 
 
 @test("mutants: of many in one check each is refused by the clause that its first line names, or elsewhere")

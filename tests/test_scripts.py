@@ -15,8 +15,8 @@ from typing import Any, TypeVar
 
 import harness
 import package
-from harness import Content, Message, TOP, examples, frames, holds, is_running, need_program, published, same, test, text_of
-from homes import write
+from harness import Content, Message, TOP, examples, frames, holds, is_running, need_program, published, same, test, text_of, want
+from homes import as_another, write
 from snippets import fenced
 
 T = TypeVar("T")
@@ -132,10 +132,8 @@ def guarded() -> None:
 
 @test("scripts: a failed write leaves the old file, and nothing beside it")
 def failed_write() -> None:
-    # (root may write everywhere, so it becomes another user, who may have no way into the folder of the sources)
-    become = "import os, sys; os.setgroups([]); os.setgid(65534); os.setuid(65534); os.execvp(sys.argv[1], sys.argv[1:])"
-
     def trial(work: str, own: dict[str, str]) -> None:
+        # (root may write everywhere, so it becomes another user, who may have no way into the folder of the sources)
         for name in ("ob0", "ob0-format"):
             at = os.path.join(work, "..", "bin", name)
             source = os.path.realpath(at)
@@ -143,8 +141,7 @@ def failed_write() -> None:
             shutil.copy(source, at)
         os.chmod(os.path.dirname(work), 0o755)
         os.chmod(work, 0o555)
-        another = [sys.executable, "-c", become] if os.geteuid() == 0 else []
-        found = ran([*another, "ob0-format", "loose.ob0"], work, own)
+        found = ran([*as_another(), "ob0-format", "loose.ob0"], work, own)
         same((found[0], text_of(work, "loose.ob0"), sorted(os.listdir(work))), (4, LOOSE, sorted(MODULES)), str(found))
         os.chmod(work, 0o755)
 
@@ -213,8 +210,7 @@ def format_keeps() -> None:
 
 @test("scripts: ob0-format leaves another user's file, whose owner it can't keep")
 def format_others() -> None:
-    if os.geteuid() != 0 or not shutil.which("setpriv"):
-        harness.leave_out("it wants root and setpriv, to be another user")
+    want("root")
 
     def trial(work: str, own: dict[str, str]) -> None:
         room = os.path.dirname(work)
@@ -222,7 +218,7 @@ def format_others() -> None:
         write(os.path.join(room, "ob0"), server_with([{"range": harness.extent("0:7-0:7"), "newText": " "}]))
         for name, mode in (("", 0o755), ("ob0", 0o755), ("work", 0o777), ("work/good.mod", 0o666)):
             os.chmod(os.path.join(room, name), mode)
-        found = ran(["setpriv", "--reuid=65534", "--clear-groups", "python3", os.path.join(room, "ob0-format"), "good.mod"], work, own)
+        found = ran([*as_another(), "python3", os.path.join(room, "ob0-format"), "good.mod"], work, own)
         said = "good.mod: its owner, group, mode or access list can't be kept: Operation not permitted\n"
         same((found, text_of(work, "good.mod"), os.listdir(work)), ((4, "", said), LAID_OUT, ["good.mod"]))
 

@@ -100,7 +100,8 @@ def in_fish() -> None:
 
     for typed, wanted in OFFERED:
         found = in_folder(functools.partial(offered, typed=typed))
-        same(sorted(it for it in found if it in [*wanted, *COMMANDS, "help", *FILES]), sorted(wanted), f"after `{typed}`")
+        # (it offers `--` among the commands too)
+        same([it for it in found if it != "--" or it in wanted], sorted(wanted), f"after `{typed}`")
     # (words that fish expands, and what comes after the file)
     for given, wanted in {"~/a": ["~/a.ob0"], "$HOME/a": ["$HOME/a.ob0"], "'b": ["b.mod"]}.items():
         for command in ("ob0 check", "ob0-format", "ob0-watch run"):

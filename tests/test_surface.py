@@ -168,6 +168,18 @@ def lacking() -> None:
         holds("| `inside::Count::of` | wrong-bodies/empty |" in page and "| `law` | law |" in page, page)
 
 
+@test("surface: the counts of mutants are written into README's sentence, and a page without it is refused")
+def counted() -> None:
+    page = "`make test` checks every proof, 1 wrong\nversions and tries some: of 2 others\n3 were refused in their present form and 4 not tried since."
+    with mock.patch.object(public_functions, "counts", lambda: (5, 6, 7, 8)):
+        same([int(it) for it in public_functions.with_counts(page).split() if it.isdigit()], [5, 6, 7, 8], "the counts")
+        try:
+            public_functions.with_counts(page.replace("others", "mutants"))
+        except LookupError:
+            return
+    raise Failed("a page without the sentence is taken")
+
+
 @test("surface: a public type has its variants, or its public fields, in the order of the source")
 def types() -> None:
     with tempfile.TemporaryDirectory() as top, two_crates(top):

@@ -31,7 +31,7 @@ esac
 """
 TESTS = """import os, shutil, sys
 with open({room!r} + "/called", "a") as file:
-    file.write(f"tests {{sys.argv[1]}} {{os.environ.get('OB0_WHOLE')}} {{os.environ.get('OB0')}}\\n")
+    file.write(f"tests {{sys.argv[1]}}" + "".join(f" {{it}}" for it in {variables} if it in os.environ) + "\\n")
 if sys.argv[1] == "--rest":
     shutil.copy({room!r} + "/bin/ob0.stamp", {room!r} + "/stamp")
 with open({room!r} + "/bin/results", "a") as file:
@@ -39,6 +39,7 @@ with open({room!r} + "/bin/results", "a") as file:
 with open({room!r} + "/" + sys.argv[1]) as file:
     print(file.read())
 """
+VARIABLES = ["OB0", "OB0_RANDOM", "OB0_SEED", "OB0_WHOLE"]
 MUTANTS = """from typing import Any
 class Libraries:
     def __init__(self, folder: str) -> None:
@@ -77,13 +78,15 @@ def whole(
     with temporary() as room:
         shutil.copytree(os.path.join(TOP, "tools"), os.path.join(room, "tools"), ignore=shutil.ignore_patterns("__pycache__"))
         files = {"tools/mutants.py": MUTANTS.format(others=others, tried=tried), "tools/notices.py": "def keep() -> None:\n    pass\n", "tools/editors.py": "TOOLS = REQUIRED = {}\n"}
-        files.update({"ci": f"rt: ob0_low proved\n{ci}\n", "--first": first, "--rest": rest, "called": "", "tests/run.py": TESTS.format(room=room)})
+        files.update({"ci": f"rt: ob0_low proved\n{ci}\n", "--first": first, "--rest": rest, "called": ""})
+        files.update({"tests/run.py": TESTS.format(room=room, variables=VARIABLES)})
         files.update({"path/rt": RT.format(room=room), "crates.txt": "ob0:\n", "HANDLES": "none\n", "crates/ob0/src/main.rt": "\n"})
         for path, text in files.items():
             write(os.path.join(room, path), text)
         os.chmod(os.path.join(room, "path", "rt"), 0o755)
         path = os.path.join(room, "path") + os.pathsep + os.environ["PATH"]
-        own = {**os.environ, "PATH": path, "STATUS": str(status), "PROGRAM": program, "FLAGS": known, "OB0": "/another/program"}
+        own = {**os.environ, "PATH": path, "STATUS": str(status), "PROGRAM": program, "FLAGS": known}
+        own.update(OB0="/another/program", OB0_RANDOM="0", OB0_SEED="5")
         words = [sys.executable, "-B", os.path.join(room, "tools", "test.py"), *flags]
         ran = subprocess.run(words, stdout=subprocess.PIPE, stderr=subprocess.STDOUT, env=own, check=False)
         said = ran.stdout.decode()
@@ -102,7 +105,7 @@ def passes() -> None:
     holds(found.stamp.endswith(f"\ngate {found.last}\n"), f"the stamp: {found.stamp}")
     same(found.stamp_before, found.stamp.replace(f"gate {found.last}\n", ""), "the stamp while the tests run")
     steps = [it for it in found.called if it.startswith(("tests", "rt ci"))]
-    same(steps, ["tests --first 1 None", "rt ci", "tests --rest 1 None"], "what is run, in this order")
+    same(steps, ["tests --first OB0_WHOLE", "rt ci", "tests --rest OB0_WHOLE"], "what is run, in this order, with these variables")
     holds("\ntried over 2 lines\n" in found.said, "each line of `rt ci` is taken")
     same([it for it in found.said.splitlines() if it[:1].isdigit()], [found.last], "the lines that look like a verdict")
 
@@ -134,7 +137,7 @@ def fails() -> None:
 def without_program() -> None:
     found = whole(ci="199 passed, 1 failed", status=1, program="")
     same((found.status, found.last), (1, "319 passed, 2 failed"), found.said)
-    same([it for it in found.called if it.startswith("tests")], ["tests --first 1 None"], "the tests that are run")
+    same([it for it in found.called if it.startswith("tests")], ["tests --first OB0_WHOLE"], "the tests that are run")
     same(found.stamp, "", "the stamp")
 
 
@@ -143,6 +146,19 @@ def anew() -> None:
     for known, wanted in (("--anew", "rt ci --anew"), ("", "rt ci")):
         found = whole(flags=("--anew",), known=known)
         same([it for it in found.called if it.startswith("rt ci")], [wanted], f"with a kit that has {known!r}")
+
+
+@test("whole: no word and no variable of `make test` says which mutants it tries")
+def no_choice() -> None:
+    # (`try_some` is given the libraries and nothing else)
+    found = whole(flags=("--part", "3", "--all", "ob0_text"))
+    same((found.status, [it for it in found.called if it.startswith("rt ci")]), (0, ["rt ci"]), found.said)
+    own = {name: value for name, value in os.environ.items() if not name.startswith("MAKE")}
+    runs = []
+    for given in ("", "PART=3 ALL=1 CRATE=ob0_text WORDS=--part"):
+        words = ["make", "--dry-run", "--no-print-directory", "PYTHON=python3", "test", *given.split()]
+        runs.append(subprocess.run(words, cwd=TOP, stdout=subprocess.PIPE, stderr=subprocess.STDOUT, env=own, check=False).stdout.decode())
+    same([it.splitlines()[-1].strip() for it in runs], ["python3 tools/test.py"] * 2, "what is run")
 
 
 @test("whole: the least numbers of tests are near those of the present ones")

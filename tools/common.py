@@ -129,6 +129,18 @@ def kit() -> str | None:
     return ran.stdout.decode(errors="replace").strip()
 
 
+def commit() -> str:
+    """The commit's hash, whoever owns the repository; 0 outside a repository of git."""
+    # (a hook of git that starts this has another repository in its variables)
+    own = {name: value for name, value in os.environ.items() if not name.startswith("GIT_")}
+    words = ["git", "-c", f"safe.directory={TOP}", "-C", TOP, "rev-parse", "HEAD"]
+    how: dict[str, Any] = {"stdin": subprocess.DEVNULL, "stdout": subprocess.PIPE, "stderr": subprocess.DEVNULL, "env": own}
+    if not shutil.which("git"):
+        return "0"
+    ran: subprocess.CompletedProcess[bytes] = subprocess.run(words, check=False, **how)
+    return ran.stdout.decode().strip() or "0"
+
+
 def stamp() -> dict[str, str]:
     """What bin/ob0.stamp says of bin/ob0: the toolchain that proved it, the sums of its sources and of the program, and the last line
     of `make test` once that has ended on it."""

@@ -91,7 +91,7 @@ DESKTOP = {
     "gio": (here("gio"), "libglib2.0-bin"),
     "dpkg": (here("dpkg-deb"), "dpkg"),
     "apt-get": (here("apt-get"), "apt"),
-    "root": (lambda: os.geteuid() == 0, ""),  # (dpkg unpacks for root only)
+    "root": (lambda: os.geteuid() == 0, ""),  # (dpkg unpacks for root only, and only root has files of two users)
     "Python 3.11": (lambda: sys.version_info >= (3, 11), ""),  # (the first that reads TOML)
     "lintian": (here("lintian"), "lintian"),
     "man": (here("man"), "man-db"),

@@ -4,6 +4,7 @@
   tools/mutants.py [--lanes N] [--quiet] [CRATE..]  those that weren't refused yet in their present form, of all crates if none is named
   tools/mutants.py CRATE/WORD..                     those of a crate with this word in their path, refused or not, of must-fail/ too
   tools/mutants.py --all [CRATE..]                  all of them
+  tools/mutants.py --part N [--part N]              those of a part that a run of `make test` has tried, refused or not
   tools/mutants.py --left [CRATE..]                 lists those that weren't refused yet in their present form, and tries none
 
 First the crates and those below them are proved over kept work, as `make check` does. Then up to some twenty mutants of a crate are
@@ -17,8 +18,9 @@ goal any more; if the line names none, any clause of the function does. One that
 requires, is listed as refused elsewhere. What each came to is written into tools/mutants.txt after each check (tools/verdicts.py),
 so a run that is ended can be resumed.
 
-`make test` calls `try_some` after `rt ci`, over the libraries that it has just proved: a fortieth of the mutants by the commit's
-hash, whatever their rows say. The edits of crates/*/must-fail are tried by `rt ci` itself (tools/refusals.py).
+`make test` calls `try_some` after `rt ci`, over the libraries that it has just proved. It tries two of eighty parts of the mutants,
+whatever their rows say: one by the commit's hash, and one drawn at random in the run, so that no committer chooses what is tried.
+The edits of crates/*/must-fail are tried by `rt ci` itself (tools/refusals.py).
 
 The status is 1 if a mutant isn't refused by its clause, or could not be tried; with --left, if there are any."""
 from __future__ import annotations
@@ -26,8 +28,8 @@ from __future__ import annotations
 import argparse
 import os
 import re
+import secrets
 import shutil
-import subprocess
 import sys
 import tempfile
 from concurrent.futures import FIRST_COMPLETED, Future, ThreadPoolExecutor, wait
@@ -47,7 +49,7 @@ from verdicts import Mutants, is_met
 
 # Where `make check` keeps a crate's proofs, and where a run of `try_some` does.
 OF_CRATE, OF_RUN = os.path.join(TOP, "crates", "{}", "out", "incremental"), os.path.join(build.ROOMS, "kept", "{}")
-PARTS = 40  # `make test` tries one of so many parts
+PARTS = 80  # `make test` tries two of so many parts
 MOST = 24  # mutants in one check: with more it takes much memory, and the others wait for it
 REFUSED, ELSEWHERE, PROVED, NOT_JUDGED = "refused", "elsewhere", "PROVED", "not judged"
 WORDS = (REFUSED, ELSEWHERE, PROVED, NOT_JUDGED)
@@ -290,25 +292,32 @@ def crates_of(chosen: Iterable[Edit], sources: Dict[str, reading.Source]) -> Lis
     return [Crate(name, own, sources[name]) for name, own in found.items()]
 
 
-def commit() -> str:
-    """The commit's hash, or 0 outside a repository of git."""
-    how = ["git", "-C", TOP, "rev-parse", "HEAD"]
-    ran = subprocess.run(how, stdout=subprocess.PIPE, stderr=subprocess.DEVNULL, check=False) if shutil.which("git") else None
-    return ran.stdout.decode().strip() or "0" if ran else "0"
+def part_of_commit() -> int:
+    """The part, from 1, that the commit's hash names; 1 outside a repository of git."""
+    return int(common.commit(), 16) % PARTS + 1
 
 
-def part_of(paths: List[str], number: int) -> List[str]:
-    """One of the parts of the sorted paths: those of one crate are side by side, so a part needs few checks."""
-    return paths[number * len(paths) // PARTS : (number + 1) * len(paths) // PARTS]
+def drawn_part(other: int) -> int:
+    """A part at random, except the other one that is tried. The system draws it, so nobody can choose it by a commit, an option or a
+    variable of the environment."""
+    return (other + secrets.randbelow(PARTS - 1)) % PARTS + 1
+
+
+def part_of(paths: Iterable[str], number: int) -> List[str]:
+    """One of the parts of some paths, from 1. The paths of a crate are side by side, so a part needs few checks."""
+    found = sorted(paths)
+    return found[(number - 1) * len(found) // PARTS : number * len(found) // PARTS]
 
 
 def try_some(libraries: checks.Libraries) -> Tuple[int, int]:
-    """Tries a fortieth of the mutants by the commit's hash, over the libraries that `rt ci` proved. Returns how many were refused by
+    """Tries the commit's part of the mutants and a drawn one, over the libraries that `rt ci` proved. Returns how many were refused by
     their clause, and how many weren't; a mutant over a crate that isn't proved counts among these. Nothing is written."""
     mutants = Mutants()
-    number = int(commit(), 16) % PARTS
-    chosen = [mutants.edits[it] for it in part_of(sorted(mutants.edits), number)]
-    print(f"part {number + 1} of {PARTS}: {len(chosen)} of {len(mutants.edits)} mutants", flush=True)
+    of_commit = part_of_commit()
+    drawn = drawn_part(of_commit)
+    chosen = [mutants.edits[it] for number in (of_commit, drawn) for it in part_of(mutants.edits, number)]
+    print(f"part {of_commit}, by the commit's hash, and part {drawn}, drawn in this run, of {PARTS}: {len(chosen)} of "
+          f"{len(mutants.edits)} mutants; `tools/mutants.py --part {of_commit} --part {drawn}` tries them again", flush=True)  # fmt: skip
     run = Run(crates_of(chosen, mutants.sources), build.lanes(), lambda settled: None)
     run.try_all(libraries, OF_RUN)
     counts = run.counts()
@@ -365,6 +374,7 @@ def main(given: List[str]) -> int:
     words.add_argument("--quiet", action="store_true")
     words.add_argument("--all", action="store_true")
     words.add_argument("--left", action="store_true")
+    words.add_argument("--part", type=int, action="append", default=[], metavar="N")
     words.add_argument("crates", nargs="*", metavar="CRATE[/WORD]")
     options = words.parse_args(given)
     common.need("rt")
@@ -375,8 +385,13 @@ def main(given: List[str]) -> int:
     unknown = [it for it in named if it not in common.libraries()]
     if unknown:
         common.stop(f"crates.txt names no crate {', '.join(unknown)}")
+    if any(it not in range(1, PARTS + 1) for it in options.part) or options.part and (options.crates or options.all or options.left):
+        common.stop(f"--part takes 1 to {PARTS}, and no other words")
     mutants = Mutants()
-    chosen = chosen_of(named, mutants, options.all and not options.left)
+    if options.part:
+        chosen = [mutants.edits[it] for number in sorted({*options.part}) for it in part_of(mutants.edits, number)]
+    else:
+        chosen = chosen_of(named, mutants, options.all and not options.left)
     if options.left:
         return list_left(chosen, mutants)
     try:

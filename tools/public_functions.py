@@ -104,7 +104,8 @@ def counts() -> "tuple[int, int, int, int]":
 
 
 def with_counts(text: str) -> str:
-    """README's text with the counts of mutants."""
+    """README's text with the counts of mutants. It has to have the sentence that says them."""
+    common.match_of(COUNTS.pattern, text, COUNTS.flags)
     of_kit, others, refused, left = counts()
     return COUNTS.sub(rf"\g<1>{of_kit}\g<2>{others}\g<3>{refused}\g<4>{left}\g<5>", text)
 

@@ -57,8 +57,8 @@ def stream(words: list[str], timer: common.Timer, take: Callable[[str], object] 
     `rt` says of a crate has the time before it. Each line is given to `take`."""
     counts = Counts(0, 0)
     how: dict[str, Any] = {"cwd": TOP, "stdin": subprocess.DEVNULL, "stdout": subprocess.PIPE, "stderr": subprocess.STDOUT}
-    # (the tests are of the program that the gate builds)
-    how["env"] = {**{key: value for key, value in os.environ.items() if key != "OB0"}, **named}
+    # (the tests are of the program that the gate builds, and the random ones try all that they try)
+    how["env"] = {**{key: value for key, value in os.environ.items() if key not in ("OB0", "OB0_RANDOM", "OB0_SEED")}, **named}
     with subprocess.Popen(words, **how) as process:
         assert process.stdout
         for line in process.stdout:

@@ -176,14 +176,26 @@ def call(marking: Marking, words: List[str], given: str = "") -> Ended:
             hard = resource.getrlimit(which)[1]
             bound = most if hard == resource.RLIM_INFINITY else min(most, hard)
             resource.setrlimit(which, (bound, bound))
+        signal.pthread_sigmask(signal.SIG_UNBLOCK, STOPPING)
 
     with tempfile.TemporaryFile() as out, tempfile.TemporaryFile() as err:
-        how: Dict[str, Any] = {"stdout": out, "stderr": err, "preexec_fn": limit}
+        how: Dict[str, Any] = {"stdin": subprocess.PIPE, "stdout": out, "stderr": err, "preexec_fn": limit}
         status: Optional[int] = None
+        # (a signal waits until the process that it has to end is known)
+        signal.pthread_sigmask(signal.SIG_BLOCK, STOPPING)
         try:
-            status = subprocess.run([marking.program, *words], input=given.encode(), timeout=marking.seconds, check=False, **how).returncode
-        except subprocess.TimeoutExpired:
-            pass
+            with subprocess.Popen([marking.program, *words], **how) as process:
+                try:
+                    signal.pthread_sigmask(signal.SIG_UNBLOCK, STOPPING)
+                    process.communicate(given.encode(), marking.seconds)
+                    status = process.returncode
+                except subprocess.TimeoutExpired:
+                    process.kill()
+                except BaseException:
+                    process.kill()
+                    raise
+        finally:
+            signal.pthread_sigmask(signal.SIG_UNBLOCK, STOPPING)
         return Ended(text_in(out), text_in(err), status)
 
 

@@ -16,7 +16,7 @@ import termios
 import threading
 import time
 from collections.abc import Iterable, Sequence
-from typing import Any, Callable, Dict, IO, List, NoReturn, Tuple, TypeVar, Union
+from typing import Any, Callable, IO, List, NoReturn, Tuple, TypeVar, Union
 
 TOP = os.path.dirname(os.path.dirname(os.path.dirname(os.path.abspath(__file__))))
 sys.path += [os.path.join(TOP, *it) for it in (["tests"], ["tests", "lib"], ["tests", "inputs"], ["tools"], ["bench"])]

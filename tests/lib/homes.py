@@ -56,6 +56,12 @@ def write(path: str, text: str) -> None:
         file.write(text)
 
 
+def as_another() -> list[str]:
+    """Words before a command that must not run as root: root becomes another user by them, and for other users there are none."""
+    become = "import os, sys; os.setgroups([]); os.setgid(65534); os.setuid(65534); os.execvp(sys.argv[1], sys.argv[1:])"
+    return [sys.executable, "-c", become] if os.geteuid() == 0 else []
+
+
 def run_plainly(words: list[str], own: dict[str, str], cwd: str) -> tuple[int, str]:
     """Runs a program without a terminal: its status, and what it said. What it has started ends with it."""
     how: dict[str, Any] = {"stdin": subprocess.DEVNULL, "stdout": subprocess.PIPE, "stderr": subprocess.STDOUT, "cwd": cwd, "env": own}

@@ -5,10 +5,9 @@ from __future__ import annotations
 
 import functools
 import os
-import subprocess
 from typing import List
 
-from harness import TOP
+import common
 
 COUNT = int(os.environ.get("OB0_RANDOM", "300"))
 
@@ -16,12 +15,7 @@ COUNT = int(os.environ.get("OB0_RANDOM", "300"))
 @functools.lru_cache(None)
 def of_commit() -> int:
     """A number made of the commit's hash; 0 outside a repository."""
-    words = ["git", "-c", f"safe.directory={TOP}", "rev-parse", "--short=7", "HEAD"]
-    try:
-        found = subprocess.run(words, cwd=TOP, stdout=subprocess.PIPE, stderr=subprocess.DEVNULL, stdin=subprocess.DEVNULL, check=False)
-        return int(found.stdout[:7] or b"0", 16)
-    except OSError:
-        return 0
+    return int(common.commit()[:7], 16)
 
 
 def starts() -> List[int]:

@@ -7,7 +7,6 @@ from typing import Any, Dict, Tuple
 
 from reference.names import Declared
 from reference.parser import Node
-from reference.scanner import Token
 from reference.text import Text
 from reference.types import INTEGER, Type
 from reference.values import Ends, apply, whole
