@@ -231,7 +231,7 @@ def rows() -> None:
     same([it.path for it in verdicts.rows_of(verdicts.PATH)], sorted(found.edits), "its lines (tools/mutants.py writes them)")
 
 
-@test("mutants: each is in one of the parts of which `make test` tries two")
+@test("mutants: each is in one of the parts of which `make test` tries one")
 def parts() -> None:
     for paths in ([f"{at:03}" for at in range(947)], ["b", "a"], [it.path for it in verdicts.rows_of(verdicts.PATH)]):
         found = [mutants.part_of(paths, number) for number in range(1, mutants.PARTS + 1)]
@@ -248,20 +248,25 @@ class Unread(Dict[str, str]):
     get = __contains__ = __iter__ = __getitem__  # type: ignore[assignment]
 
 
-@test("mutants: the second part is drawn anew in each run, and neither the commit nor the environment says which")
+@test("mutants: those refused before are drawn anew in each run, and neither the commit nor the environment says which")
 def part_drawn() -> None:
     for commit in ("0", "4f" * 20, f"{mutants.PARTS - 1:x}"):
         with mock.patch.object(common, "commit", lambda: commit):  # pylint: disable=cell-var-from-loop
             own = {mutants.part_of_commit() for _ in range(3)}
         same(own, {int(commit, 16) % mutants.PARTS + 1}, "the commit's part")
-        with mock.patch.object(os, "environ", Unread()):
-            runs = []
-            for _ in range(2):
-                random.seed(0)
-                runs.append([mutants.drawn_part(*own) for _ in range(60)])
-        holds(runs[0] != runs[1], f"both times {runs[0]} was drawn")
-        drawn = {it for run in runs for it in run}
-        holds(len(drawn) > 20 and not own & drawn and drawn <= {*range(1, mutants.PARTS + 1)}, f"beside {own} these were drawn: {drawn}")
+    found = mock.Mock(current=[f"{at:03}" for at in range(300)], edits=range(970))
+    with mock.patch.object(os, "environ", Unread()):
+        runs = []
+        for _ in range(2):
+            random.seed(0)
+            runs.append([mutants.drawn_from(found) for _ in range(60)])
+    holds(runs[0] != runs[1], f"both times {runs[0]} was drawn")
+    drawn = {it for run in runs for it in run}
+    holds(len(drawn) > 60 and drawn <= {*range(1, 301)}, f"these were drawn: {drawn}")
+    same(mutants.neighbours(found, 295), found.current[294:] + found.current[:6], "twelve of them, from the last ones on")
+    same(mutants.neighbours(mock.Mock(current=["b", "c"], edits=range(970)), 2), ["c", "b"], "each of a few once")
+    nothing = mock.Mock(current=[], edits=range(970))
+    same(mutants.neighbours(nothing, mutants.drawn_from(nothing)), [], "none if none was refused")
 
 
 def tried_by(function: Callable[[], object]) -> Tuple[List[str], str]:
@@ -277,16 +282,18 @@ def tried_by(function: Callable[[], object]) -> Tuple[List[str], str]:
     return sorted(tried), said.getvalue()
 
 
-@test("mutants: `make test` tries the commit's part and the drawn one, and prints the words that try them again")
+@test("mutants: `make test` tries the commit's part and the drawn ones, and prints the words that try them again")
 def parts_again() -> None:
     found = verdicts.Mutants()
     with mock.patch.object(mutants, "Mutants", lambda: found):
         tried, said = tried_by(lambda: mutants.try_some(mutants.Libraries("no folder")))
-        numbers = re.findall(r"--part (\d+)", said)
-        same(numbers[:1], [str(mutants.part_of_commit())], said)
-        same((len(numbers), len(tried)), (2, int(common.match_of(r"(\d+) of \d+ mutants", said)[1])), said)
-        same(tried_by(lambda: mutants.main([it for number in numbers for it in ("--part", number)]))[0], tried, "those that are tried again")
-        for words in (["--part", "0"], ["--part", str(mutants.PARTS + 1)], ["--part", "1", "ob0_text"], ["--part", "1", "--all"]):
+        part, start = common.match_of(r"--part (\d+) --from (\d+)", said).groups()
+        same(part, str(mutants.part_of_commit()), said)
+        same(len(tried), int(common.match_of(r"(\d+) of \d+ mutants", said)[1]), said)
+        same(sorted({*mutants.part_of(found.edits, int(part)), *mutants.neighbours(found, int(start))}), tried, said)
+        same(tried_by(lambda: mutants.main(["--part", part, "--from", start]))[0], tried, "those that are tried again")
+        wrong_words = (["--part", "0"], ["--part", str(mutants.PARTS + 1)], ["--part", "1", "ob0_text"], ["--part", "1", "--all"])
+        for words in (*wrong_words, ["--from", "0"], ["--from", str(len(found.current) + 1)]):
             with contextlib.redirect_stderr(io.StringIO()) as wrong:
                 try:
                     mutants.main(words)
@@ -294,7 +301,8 @@ def parts_again() -> None:
                     same(why.code, 2, f"the status of {words}")
                 else:
                     raise Failed(f"{words} were taken")
-            holds(f"--part takes 1 to {mutants.PARTS}" in wrong.getvalue(), wrong.getvalue())
+            most = {"--part": mutants.PARTS, "--from": len(found.current)}[words[0]]
+            holds(f"{words[0]} takes 1 to {most}" in wrong.getvalue(), wrong.getvalue())
 
 
 @test("mutants: the commit's hash is that of this repository, whatever the variables of git say")

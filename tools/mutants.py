@@ -4,7 +4,7 @@
   tools/mutants.py [--lanes N] [--quiet] [CRATE..]  those that weren't refused yet in their present form, of all crates if none is named
   tools/mutants.py CRATE/WORD..                     those of a crate with this word in their path, refused or not, of must-fail/ too
   tools/mutants.py --all [CRATE..]                  all of them
-  tools/mutants.py --part N [--part N]              those of a part that a run of `make test` has tried, refused or not
+  tools/mutants.py --part N --from K                those that a run of `make test` has tried, by the two numbers that it printed
   tools/mutants.py --left [CRATE..]                 lists those that weren't refused yet in their present form, and tries none
 
 First the crates and those below them are proved over kept work, as `make check` does. Then up to some twenty mutants of a crate are
@@ -18,9 +18,9 @@ goal any more; if the line names none, any clause of the function does. One that
 requires, is listed as refused elsewhere. What each came to is written into tools/mutants.txt after each check (tools/verdicts.py),
 so a run that is ended can be resumed.
 
-`make test` calls `try_some` after `rt ci`, over the libraries that it has just proved. It tries two of eighty parts of the mutants,
-whatever their rows say: one by the commit's hash, and one drawn at random in the run, so that no committer chooses what is tried.
-The edits of crates/*/must-fail are tried by `rt ci` itself (tools/refusals.py).
+`make test` calls `try_some` after `rt ci`, over the libraries that it has just proved. It tries two eightieths of the mutants: a part
+by the commit's hash, whatever their rows say, and as many that were refused before by their rows, drawn at random in the run: no
+committer chooses which rows are tested. The edits of crates/*/must-fail are tried by `rt ci` itself (tools/refusals.py).
 
 The status is 1 if a mutant isn't refused by its clause, or could not be tried; with --left, if there are any."""
 from __future__ import annotations
@@ -49,7 +49,7 @@ from verdicts import Mutants, is_met
 
 # Where `make check` keeps a crate's proofs, and where a run of `try_some` does.
 OF_CRATE, OF_RUN = os.path.join(TOP, "crates", "{}", "out", "incremental"), os.path.join(build.ROOMS, "kept", "{}")
-PARTS = 80  # `make test` tries two of so many parts
+PARTS = 80  # `make test` tries one of so many parts, and as many again
 MOST = 24  # mutants in one check: with more it takes much memory, and the others wait for it
 REFUSED, ELSEWHERE, PROVED, NOT_JUDGED = "refused", "elsewhere", "PROVED", "not judged"
 WORDS = (REFUSED, ELSEWHERE, PROVED, NOT_JUDGED)
@@ -297,27 +297,34 @@ def part_of_commit() -> int:
     return int(common.commit(), 16) % PARTS + 1
 
 
-def drawn_part(other: int) -> int:
-    """A part at random, except the other one that is tried. The system draws it, so nobody can choose it by a commit, an option or a
-    variable of the environment."""
-    return (other + secrets.randbelow(PARTS - 1)) % PARTS + 1
-
-
 def part_of(paths: Iterable[str], number: int) -> List[str]:
     """One of the parts of some paths, from 1. The paths of a crate are side by side, so a part needs few checks."""
     found = sorted(paths)
     return found[(number - 1) * len(found) // PARTS : number * len(found) // PARTS]
 
 
+def drawn_from(mutants: Mutants) -> int:
+    """A number at random, from 1, of a mutant that was refused before by its row; 1 if none was. The system draws it, so nobody can
+    choose it by a commit, an option or a variable of the environment."""
+    return secrets.randbelow(max(1, len(mutants.current))) + 1
+
+
+def neighbours(mutants: Mutants, number: int) -> List[str]:
+    """As many of the mutants that were refused before as a part has, from the one with this number on, and then from the first."""
+    found = mutants.current
+    return [found[(number - 1 + it) % len(found)] for it in range(min(len(found), len(mutants.edits) // PARTS))]
+
+
 def try_some(libraries: checks.Libraries) -> Tuple[int, int]:
-    """Tries the commit's part of the mutants and a drawn one, over the libraries that `rt ci` proved. Returns how many were refused by
-    their clause, and how many weren't; a mutant over a crate that isn't proved counts among these. Nothing is written."""
+    """Tries the commit's part of the mutants, and some drawn ones that were refused before, over the libraries that `rt ci` proved.
+    Returns how many were refused by their clause, and how many weren't; a mutant over a crate that isn't proved counts among these.
+    Nothing is written."""
     mutants = Mutants()
-    of_commit = part_of_commit()
-    drawn = drawn_part(of_commit)
-    chosen = [mutants.edits[it] for number in (of_commit, drawn) for it in part_of(mutants.edits, number)]
-    print(f"part {of_commit}, by the commit's hash, and part {drawn}, drawn in this run, of {PARTS}: {len(chosen)} of "
-          f"{len(mutants.edits)} mutants; `tools/mutants.py --part {of_commit} --part {drawn}` tries them again", flush=True)  # fmt: skip
+    of_commit, drawn = part_of_commit(), drawn_from(mutants)
+    chosen = [mutants.edits[it] for it in dict.fromkeys(part_of(mutants.edits, of_commit) + neighbours(mutants, drawn))]
+    print(f"part {of_commit} of {PARTS}, by the commit's hash, and of the {len(mutants.current)} that were refused before those from "
+          f"number {drawn} on, drawn in this run: {len(chosen)} of {len(mutants.edits)} mutants; "
+          f"`tools/mutants.py --part {of_commit} --from {drawn}` tries them again", flush=True)  # fmt: skip
     run = Run(crates_of(chosen, mutants.sources), build.lanes(), lambda settled: None)
     run.try_all(libraries, OF_RUN)
     counts = run.counts()
@@ -374,7 +381,8 @@ def main(given: List[str]) -> int:
     words.add_argument("--quiet", action="store_true")
     words.add_argument("--all", action="store_true")
     words.add_argument("--left", action="store_true")
-    words.add_argument("--part", type=int, action="append", default=[], metavar="N")
+    words.add_argument("--part", type=int, metavar="N")
+    words.add_argument("--from", type=int, dest="start", metavar="K")
     words.add_argument("crates", nargs="*", metavar="CRATE[/WORD]")
     options = words.parse_args(given)
     common.need("rt")
@@ -385,11 +393,16 @@ def main(given: List[str]) -> int:
     unknown = [it for it in named if it not in common.libraries()]
     if unknown:
         common.stop(f"crates.txt names no crate {', '.join(unknown)}")
-    if any(it not in range(1, PARTS + 1) for it in options.part) or options.part and (options.crates or options.all or options.left):
-        common.stop(f"--part takes 1 to {PARTS}, and no other words")
+    has_numbers = options.part is not None or options.start is not None
+    if has_numbers and (options.crates or options.all or options.left or options.part not in {None, *range(1, PARTS + 1)}):
+        common.stop(f"--part takes 1 to {PARTS}, and --part and --from take no other words")
     mutants = Mutants()
-    if options.part:
-        chosen = [mutants.edits[it] for number in sorted({*options.part}) for it in part_of(mutants.edits, number)]
+    if options.start is not None and options.start not in range(1, len(mutants.current) + 1):
+        common.stop(f"--from takes 1 to {len(mutants.current)}: so many were refused before")
+    if has_numbers:
+        of_part = [] if options.part is None else part_of(mutants.edits, options.part)
+        drawn = [] if options.start is None else neighbours(mutants, options.start)
+        chosen = [mutants.edits[it] for it in dict.fromkeys(of_part + drawn)]
     else:
         chosen = chosen_of(named, mutants, options.all and not options.left)
     if options.left:

@@ -78,6 +78,11 @@ class Mutants:
         return row.sum == self.sums[path] and row.is_refused(self.edits[path])
 
     @property
+    def current(self) -> List[str]:
+        """The paths of those that were refused by their clause in their present form, in order."""
+        return [it for it in sorted(self.edits) if self.is_current(it)]
+
+    @property
     def stale(self) -> List[str]:
         """The paths of the others, in order."""
         return [it for it in sorted(self.edits) if not self.is_current(it)]
