@@ -28,8 +28,8 @@ abbrev pub with_faulty : List Fault → ℕ → List ℕ → List ℕ
 with_faulty [] own faulty = faulty
 with_faulty (fault ∷ faults) own faulty = faulty ++ own ∷ []
 
--- If the Bool is true, reports the faults of a body, and appends its block's closing name `own` to
--- the faulty ones if there are any. Otherwise reports nothing and changes nothing.
+-- If the Bool is true, reports the faults of a body. If there are any, appends its block's closing
+-- name `own` to the faulty ones. Otherwise reports nothing and changes nothing.
 abbrev pub body_if : Bool → ℕ → Walked → Tree ℕ (maybe body) → Reported Walked
 body_if false own w statements = right w
 body_if true own w statements =
