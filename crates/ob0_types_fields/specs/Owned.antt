@@ -240,8 +240,8 @@ abbrev pub with_fields_at : List (Option ℕ) → List FieldName → List (Optio
 with_fields_at table [] = table
 with_fields_at table (f ∷ fs) = with_fields_at (set table f.token (Some f.owner)) fs
 
--- Entering the fields of a well-typed module in the empty table, which has one entry per token,
--- gives a table with the owners of all its fields.
+-- Entering the fields of a well-typed module in the empty table gives a table with the owners of
+-- all its fields. The empty table has one entry per token.
 abbrev pub OwnersOfFields : Type 0
 OwnersOfFields =
     (r : Resolution)

@@ -106,8 +106,8 @@ impl FieldList {
     }
 
     /// Returns the lists after the statements of one body were replaced. `place` is the place of the new body. Fields
-    /// before the body's first identifier are kept, the fields in the new statements are found, and fields from the
-    /// block's closing name onwards are moved. Token indexes are at most 2^64 - 1.
+    /// before the body's first identifier are kept, and fields from the block's closing name onwards are moved. The
+    /// fields in the new statements are found. Token indexes are at most 2^64 - 1.
     pub fn with_new_body<'a, 't>(
         self,
         alloc: Global,
