@@ -90,8 +90,8 @@ pub record IsModuleBefore
   pub same_words : c.same_words ≡ true
       → words_in c.rescan.tokens.text c.rescan.tokens.tokens ≡ words_in old.text old.tokens
 
--- holds if the previous text was the module with these parts and faults, and its tokens have the
--- same spelling as the tokens of the text `new`
+-- Holds if the previous text was the module with these parts and faults. Its tokens have the same
+-- spelling as the tokens of the text `new`.
 pub record IsWrittenAsBefore
     (new : Scanned) (tree : ModuleTree) (b : Bindings) (types : ModuleTypes) (places : FaultPlaces)
     : Type 0 where
@@ -100,9 +100,9 @@ pub record IsWrittenAsBefore
   pub alike : AreWrittenAlike old new
   pub parsed : IsParsed (parsed_by new tree)
 
--- Holds for an error with lexical faults if these are the faults of the changed text, and the
--- refusal, the kept procedures and the last module still belong to the returned old tokens. It
--- always holds for lack of memory.
+-- Holds for lexical faults if they are the faults of the changed text, and the refusal, the kept
+-- procedures and the last module still belong to the returned old tokens. It always holds for lack
+-- of memory.
 abbrev pub IsUnreadRefusal : List ℕ
     → ParseRefusal
     → Kept
@@ -117,9 +117,8 @@ IsUnreadRefusal text refusal procedures last (rescanned.Faults faults tokens) =
     × IfSome last (WasLast tokens)
 IsUnreadRefusal text refusal procedures last rescanned.Memory = Unit {0}
 
--- Holds for an error with lexical faults if these are the faults of the changed text, and the tree,
--- the bindings and the results for types still belong to the returned old tokens. It always holds
--- for lack of memory.
+-- Holds for lexical faults if they are the faults of the changed text, and the tree, the bindings
+-- and the types still belong to the returned old tokens. It always holds for lack of memory.
 abbrev pub IsUnreadModule : List ℕ
     → ModuleTree
     → Bindings

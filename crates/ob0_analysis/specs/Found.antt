@@ -30,8 +30,9 @@ abbrev pub text_read : Reading → List ℕ
 text_read (NoTree ill) = ill.tokens.text
 text_read (Module m) = m.module_read.source.text
 
--- Holds for every module. Holds for a text without a tree if the parser refuses its tokens with
--- this refusal, the kept procedures belong to its tokens, and the last module came before it.
+-- Holds for every module. For a text without a tree three things must hold: the parser refuses its
+-- tokens with this refusal, the kept procedures belong to its tokens, and the last module came
+-- before it.
 abbrev pub IsRead : Reading → Type 0
 IsRead (NoTree ill) =
     IsRefusedByParser ill.tokens ill.refusal
