@@ -43,8 +43,8 @@ pub record IsConstantWritten
   pub scalar : IsScalar w
   pub literal : written_value w ≡ Some v
 
--- Holds if each use is bound to the constant `d`, and TRUE or FALSE, if it is the value `w`, means
--- the predeclared constant in its place.
+-- Holds if each use is bound to the constant `d`. If `w` is a truth value, its word must also mean
+-- the predeclared constant in place of each use.
 pub record AreUsesOf (m : Tree Name module_text) (d : ℕ) (w : Value) (uses : Uses) : Type 0 where
   pub bound : (k : ℕ) → uses k ≡ true → binds m k ≡ Some d
   pub seen : (k : ℕ) → uses k ≡ true → IsPredeclaredTruth m k w

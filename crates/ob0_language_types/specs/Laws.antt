@@ -16,8 +16,8 @@ abbrev pub FitsByOrdinal : Type 0
 FitsByOrdinal =
     (m : Tree Name module_text) → fits_over as_names m ≡ fits_over as_labels (numbered m)
 
--- Two modules with the same numbered tree are both well-typed or neither is, if both declare no
--- name twice in a block or record and have the right closing names.
+-- Two modules with the same numbered tree are both well-typed or neither is. Both must declare no
+-- name twice in a block or record, and have the right closing names.
 abbrev pub WellTypedByShape : Type 0
 WellTypedByShape =
     (a b : Tree Name module_text)

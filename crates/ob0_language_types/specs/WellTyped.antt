@@ -94,8 +94,8 @@ argument_fits meaning f e =
     agree (Some f.shape) (elim f.mode
     [ by_value ↦ type_of meaning e | by_place ↦ variable_type meaning (lone_designator e) ])
 
--- returns true if there are as many arguments as parameters, and each argument has the type and
--- form that its parameter requires (rules 2 and 5)
+-- Returns true if there are as many arguments as parameters. Each argument must have the type and
+-- the form that its parameter requires (rules 2 and 5).
 unfoldable pub arguments_fit : {N P : Type 0}
     → Meanings N Shape P
     → Signature
