@@ -7,7 +7,8 @@ use Rattle.ob0_language_names.specs.Occurrences.{binds}
 use Rattle.ob0_language_names.specs.Parts.{formal_names, formal_sections}
 use Rattle.ob0_language_names.specs.Scopes.{after_names, after_procedure, first_procedure, predeclared_count, same_ordinal}
 
--- says which occurrences of a tree a factor replaces, by their numbers in text order
+-- a test for the occurrences of a tree that a factor replaces; an occurrence is given by its number
+-- in text order
 abbrev pub Uses : Type 0
 Uses = ℕ → Bool
 
@@ -139,11 +140,11 @@ abbrev mutual
 abbrev pub module_without : ℕ → Tree Name module_text → Tree Name module_text
 module_without d (is_module x b closing) = is_module x (block_without d predeclared_count b) closing
 
--- the uses that consist of the occurrence with this number
+-- returns true for the occurrence with this number only
 abbrev pub only : ℕ → Uses
 only occurrence k = k == occurrence
 
--- the uses that consist of all occurrences bound to the declaration `d`
+-- returns true for the occurrences that are bound to the declaration `d`
 abbrev pub all_bound_to : Tree Name module_text → ℕ → Uses
 all_bound_to m d k = same_ordinal (binds m k) d
 

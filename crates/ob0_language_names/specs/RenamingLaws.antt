@@ -8,8 +8,8 @@ use Rattle.ob0_language_names.specs.Occurrences.{Free, first_captured}
 use Rattle.ob0_language_names.specs.Scopes.{renamed}
 use Rattle.ob0_language_names.specs.DeclaredOnce.{declared_once}
 
--- If a new name is free and the module declares no name twice, the renamed module declares no name
--- twice and has the right closing names.
+-- If a new name is free and the module has no duplicate declaration and no wrong closing name,
+-- neither has the renamed module.
 abbrev pub FreeKeepsDeclarations : Type 0
 FreeKeepsDeclarations =
     (m : Tree Name module_text) (d : ℕ) (new : Name)
