@@ -101,8 +101,9 @@ ArgumentsFit typing (f ∷ fs) (value_argument v ∷ args) =
     (f.mode ≡ by_value) × HasShape v f.shape × ArgumentsFit typing fs args
 ArgumentsFit typing _ _ = ⊥
 
--- holds if the object that a name is bound to in an activation agrees with its object in the
--- checked environment, given the earlier bindings of that environment
+-- Holds if the object that a name is bound to in an activation agrees with its object in the
+-- checked environment. The environment in front has the earlier bindings of the checked
+-- environment.
 abbrev pub BindingFits : {N : Type 0}
     → Naming N
     → StoreTyping
