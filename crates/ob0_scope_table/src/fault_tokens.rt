@@ -1,4 +1,4 @@
-//! Describes faults by their tokens, so that they can be moved to a text whose tokens have the same
+//! //! Describes faults by their tokens, so that they can be moved to the same tokens of a text with the same
 //! spellings.
 
 ghost use Rattle.std.specs.Prelude.{◌≡◌, ◌≤◌, IfOk, length, map, nat_lt};
@@ -79,8 +79,8 @@ fn place_fault(tokens: &Tokens, fault: &FaultAt) -> Fault
     }
 }
 
-/// Returns the index of the first token that doesn't begin before a place, found by binary search.
-/// For place 0 it is the number of tokens.
+/// Returns the index of the first token that doesn't begin before a place, found by binary search. Returns the number
+/// of tokens for place 0, which counts as a place where no token begins.
 fn token_begun(tokens: &[Token], place: usize) -> usize
     ensures { IsNonDecreasingBy (λ (t : token.Token). t.span.start) tokens.now
         → result ≡ begun_at tokens.now place }
@@ -91,8 +91,8 @@ fn token_begun(tokens: &[Token], place: usize) -> usize
     tokens.partition_point(|token| (token.span.start as usize) < place)
 }
 
-/// Returns the index of the first token that doesn't end before a place, found by binary search.
-/// For place 0 it is the number of tokens.
+/// Returns the index of the first token that doesn't end before a place, found by binary search. Returns the number of
+/// tokens for place 0, where no token ends.
 fn token_ended(tokens: &[Token], place: usize) -> usize
     ensures { IsNonDecreasingBy (λ (t : token.Token). t.span.end) tokens.now
         → result ≡ ended_at tokens.now place }
