@@ -100,8 +100,8 @@ pub record IsWrittenAsBefore
   pub alike : AreWrittenAlike old new
   pub parsed : IsParsed (parsed_by new tree)
 
--- Holds for lexical faults if they are the faults of the changed text, and the returned old tokens
--- still have this refusal, these kept procedures and this last module. It always holds for lack of
+-- Holds for lexical faults if they are the faults of the changed text. The returned old tokens must
+-- still have this refusal, these kept procedures and this last module. Always holds for lack of
 -- memory.
 abbrev pub IsUnreadRefusal : List ℕ
     → ParseRefusal
@@ -117,8 +117,8 @@ IsUnreadRefusal text refusal procedures last (rescanned.Faults faults tokens) =
     × IfSome last (WasLast tokens)
 IsUnreadRefusal text refusal procedures last rescanned.Memory = Unit {0}
 
--- Holds for lexical faults if they are the faults of the changed text, and the returned old tokens
--- still have this tree, these bindings and these types. It always holds for lack of memory.
+-- Holds for lexical faults if they are the faults of the changed text. The returned old tokens must
+-- still have this tree, these bindings and these types. Always holds for lack of memory.
 abbrev pub IsUnreadModule : List ℕ
     → ModuleTree
     → Bindings
