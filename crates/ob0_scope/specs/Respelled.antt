@@ -17,8 +17,8 @@ pub record AreNamedAlike (old new : Scanned) : Type 0 where
   pub same_kinds : kinds new.tokens ≡ kinds old.tokens
   pub same_names : names_in new.text new.tokens ≡ names_in old.text old.tokens
 
--- The bindings of a valid module are also the bindings of its tree over the tokens of another text,
--- if the tokens have the same kinds and the identifiers the same spellings.
+-- The bindings of a valid module are also the bindings of its tree over the tokens of another text.
+-- Its tokens must have the same kinds, and its identifiers the same spellings.
 abbrev pub BindingsStay : Type 0
 BindingsStay =
     (old new : Scanned) (tree : ModuleTree) (b : Bindings)
@@ -36,8 +36,8 @@ pub record AreMoved (old new : Scanned) (b c : Bindings) : Type 0 where
   pub occurrences : c.occurrences.items ≡ b.occurrences.items
   pub faults : c.faults.items ≡ moved_faults old new b.faults.items
 
--- The bindings of a module are also the bindings of its tree over tokens with the same spellings,
--- except that the faults are moved to the same tokens.
+-- The bindings of a module are also the bindings of its tree over tokens with the same spellings.
+-- Only the faults are moved to the same tokens.
 abbrev pub BindingsKeepTokens : Type 0
 BindingsKeepTokens =
     (old new : Scanned) (tree : ModuleTree) (b c : Bindings)

@@ -146,8 +146,8 @@ impl BodyRange {
         Ok(())
     }
 
-    /// Returns a list of tokens of the old module, with `own`, the tokens in the new body, in place of the tokens in
-    /// the old body.
+    /// Returns a list of tokens of the old module. The tokens in the old body are replaced by `own`, the tokens in the
+    /// new body.
     pub(crate) fn carry(
         self,
         alloc: Global,
