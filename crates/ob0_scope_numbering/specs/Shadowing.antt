@@ -45,8 +45,8 @@ ArePlaced newest [] = Unit {0}
 ArePlaced newest (b ∷ bs) =
     (place_of newest b.name.now ≡ Some b.place) × ArePlaced newest bs
 
--- Holds if the list has the index of each name's newest binding, each binding has its name's
--- position, and the new name has the first position.
+-- Holds if the list has the index of each name's newest binding, and each binding has its name's
+-- position. The new name has the first position.
 pub record IsKept (new : Name) (newest : List BoundName) (bindings : List Binding) : Type 0 where
   pub is : IsNewest newest bindings
   pub placed : ArePlaced newest bindings

@@ -9,8 +9,8 @@ use crate::newest::Newest;
 use std::alloc::{AllocError, Global};
 use std::marker::Model;
 
-/// A binding of a name to an ordinal, with the position of the name in the list of names, and the index of the binding
-/// that it hides.
+/// A binding of a name to an ordinal. `place` is the name's position in the list of names, and `hidden` the index of
+/// the binding that it hides.
 #[derive(Drop)]
 pub(crate) struct Binding<'t> {
     name: &'t str,
