@@ -23,22 +23,22 @@ place_if sought statements closing =
     else None
 
 -- Returns the place of the body, in this block or a procedure inside it, that contains the tokens
--- from `low` up to, but not including, `high`. `closing` is the block's closing name. Returns None
--- if no body contains them.
+-- from `low` to before `high`. `closing` is the block's closing name. Returns None if no body
+-- contains them.
 abbrev pub place_in_block : ℕ → ℕ → ℕ → Tree ℕ block → Option BodyPlace
 place_in_block low high closing b =
     place_if (is_in_block low high b) (body_in (way_in_block low b) b)
     (closing_in (way_in_block low b) closing b)
 
 -- Returns the place of the body, in this procedure or one inside it, that contains the tokens from
--- `low` up to, but not including, `high`. Returns None if no body contains them.
+-- `low` to before `high`. Returns None if no body contains them.
 abbrev pub place_in_procedure : ℕ → ℕ → Tree ℕ (item procedure) → Option BodyPlace
 place_in_procedure low high p =
     place_if (is_in_procedure low high p) (body_inside (way_in_procedure low p) p)
     (closing_inside (way_in_procedure low p) p)
 
--- Returns the place of the body, in this module, that contains the tokens from `low` up to, but not
--- including, `high`. Returns None if no body contains them.
+-- Returns the place of the body, in this module, that contains the tokens from `low` to before
+-- `high`. Returns None if no body contains them.
 abbrev pub body_place : ℕ → ℕ → Tree ℕ module_text → Option BodyPlace
 body_place low high t =
     place_if (is_in_body low high t) (body_at (way_to low t) t) (closing_at (way_to low t) t)

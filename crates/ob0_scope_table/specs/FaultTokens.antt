@@ -14,8 +14,8 @@ use Rattle.ob0_scope_table.specs.declared.fault_tokens.FaultAt.{FaultAt}
 abbrev pub first_start : Scanned → ℕ
 first_start source = (span_at source 0).start
 
--- Holds if the tokens of two texts have the same kinds and spellings, one by one, and both texts
--- begin with a token or neither does. A text without tokens counts as one that begins with a token.
+-- Holds if the tokens of two texts have the same kinds and spellings, one by one. Both texts must
+-- begin with a token, or neither. A text without tokens counts as one that begins with a token.
 pub record AreWrittenAlike (old new : Scanned) : Type 0 where
   pub old_scan : IsScan old
   pub new_scan : IsScan new

@@ -31,9 +31,9 @@ abbrev mutual
   is_in_block low high (has_body (declares cs ts vs ps) statements) =
       is_in_procedures low high ps statements
 
-  -- Returns true if the range from `low` up to `high` is in the first procedure whose closing name
-  -- isn't before `low`, and ends before that name. If there is no such procedure, the range must
-  -- begin at or after the first identifier of the block's own statements.
+  -- Returns true if the range from `low` to before `high` is in the first procedure whose closing
+  -- name isn't before `low`. If there is no such procedure, the range must begin at or after the
+  -- first identifier of the block's own statements.
   pub is_in_procedures : ℕ → ℕ → Tree ℕ (items procedure) → Tree ℕ (maybe body) → Bool
   is_in_procedures low high end statements = begins_by low (identifiers role.Declaring statements)
   is_in_procedures low high (more p ps) statements =

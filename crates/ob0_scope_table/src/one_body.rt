@@ -49,8 +49,8 @@ pub fn place_in_module(read: &Module<'_>, low: usize, high: usize) -> Option<Bod
     place_in_block(read.block(), read.closing(), low, high)
 }
 
-/// Returns the place of the body, in this block or a procedure inside it, that contains the tokens from `low` up to,
-/// but not including, `high`. `closing` is the block's closing name. Returns None if no body contains them.
+/// Returns the place of the body, in this block or a procedure inside it, that contains the tokens from `low` to before
+/// `high`. `closing` is the block's closing name. Returns None if no body contains them.
 #[cycle(places)]
 fn place_in_block(b: &Block, closing: usize, low: usize, high: usize) -> Option<BodyPlace>
     ensures { result ≡ place_in_block low high closing (block_of b.now) }
@@ -66,8 +66,8 @@ fn place_in_block(b: &Block, closing: usize, low: usize, high: usize) -> Option<
     place_of_statements(&b.body, closing, low)
 }
 
-/// Returns the place of the body, in this procedure or one inside it, that contains the tokens from `low` up to, but
-/// not including, `high`. Returns None if no body contains them.
+/// Returns the place of the body, in this procedure or one inside it, that contains the tokens from `low` to before
+/// `high`. Returns None if no body contains them.
 #[cycle(places)]
 fn place_in_procedure(p: &Procedure, low: usize, high: usize) -> Option<BodyPlace>
     ensures { result ≡ place_in_procedure low high (procedure_of p.now) }
