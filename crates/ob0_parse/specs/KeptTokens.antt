@@ -43,8 +43,8 @@ pub record IsThere {s : Sort} (ts : List Token) (from at next : ℕ) (t : Tree �
   pub forward : at < next
   pub within : next ≤ length ts
 
--- Holds if the tokens `at..next` have the kinds that the tree spells, its nesting is within the
--- limit, and its leaves are the indexes of these tokens.
+-- Holds if the tokens `at..next` have the kinds that the tree spells, and its nesting is within the
+-- limit. Its leaves must be the indexes of these tokens.
 abbrev pub IsInPlace : {s : Sort} → List Token → ℕ → ℕ → Tree ℕ s → Type 0
 IsInPlace ts at next t = IsThere ts at at next t
 
@@ -129,8 +129,8 @@ CarriesAll same xs ys =
     → Each (IsWaiting old) xs
     → Each (IsWaiting new) ys
 
--- Holds if the procedures `after` wait in the new text whenever `p` is in place in the old text and
--- `before` wait in the new text.
+-- Holds if `after` wait in the new text whenever `p` is in place in the old text and `before` wait
+-- in the new text.
 abbrev pub CarriesMade : SameTokens
     → Procedure
     → List KeptProcedure
@@ -143,8 +143,8 @@ CarriesMade same p before after =
     → Each (IsWaiting new) before
     → Each (IsWaiting new) after
 
--- Holds if the procedures `after` wait in the new text whenever all of `ps` are in place in the old
--- text and `before` wait in the new text.
+-- Holds if `after` wait in the new text whenever all of `ps` are in place in the old text and
+-- `before` wait in the new text.
 abbrev pub CarriesAllMade : SameTokens
     → List Procedure
     → List KeptProcedure
@@ -166,7 +166,7 @@ CarriesBody same a b =
     → IsBodyThere old a
     → IsBodyThere new b
 
--- Holds if the body `b`, if any, is at its place in the new text whenever the body `a`, if any, is
+-- Holds if the optional body `b` is at its place in the new text whenever the optional body `a` is
 -- at its place in the old text.
 abbrev pub CarriesAnyBody : SameTokens → Option KeptBody → Option KeptBody → Type 0
 CarriesAnyBody same a b =
@@ -186,8 +186,8 @@ IsMadeAt p k =
 abbrev pub IsTakenAt : List Token → ℕ → Procedure × ℕ → Type 0
 IsTakenAt ts at x = IsInPlace ts at x.1 (procedure_of x.0)
 
--- Holds if `x` is a procedure that begins at the index `at` with its leaves in place, whenever all
--- the waiting procedures are at their places.
+-- Holds if `x` is a procedure that begins at the index `at` with its leaves in place. This is for
+-- any text that has all the waiting procedures at their places.
 abbrev pub IsTakenFrom : List KeptProcedure → ℕ → Procedure × ℕ → Type 0
 IsTakenFrom waiting at x = (ts : List Token) → Each (IsWaiting ts) waiting → IsTakenAt ts at x
 
@@ -196,7 +196,7 @@ abbrev pub StayWaiting : List KeptProcedure → List KeptProcedure → Type 0
 StayWaiting before after =
     (ts : List Token) → Each (IsWaiting ts) before → Each (IsWaiting ts) after
 
--- Holds if `x` has the statements of a body that begins at the index `at` with its leaves in place,
--- and the index of the token after it.
+-- Holds if `x` has the statements of a body and the index of the token after it. The body begins at
+-- the index `at` with its leaves in place.
 abbrev pub IsTakenBody : List Token → ℕ → Vec Statement Global × ℕ → Type 0
 IsTakenBody ts at x = IsInPlace ts at x.1 (body_of (Some x.0))
