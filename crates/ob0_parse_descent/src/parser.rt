@@ -226,7 +226,7 @@ impl<'t> Parser<'t> {
     }
 
     /// Returns the factor that consists of the token at `at`. Returns None if that token is neither an identifier nor
-    /// an integer, or if the next token binds it with the strength `level` or more strongly.
+    /// an integer. Also returns None if the next token binds it with the strength `level` or more strongly.
     #[inline(always)]
     fn lone(&self, at: usize, level: u8) -> Option<Factor>
         requires within { at ≤ length self.now.tokens.now }
