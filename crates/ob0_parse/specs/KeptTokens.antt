@@ -143,8 +143,8 @@ CarriesMade same p before after =
     → Each (IsWaiting new) before
     → Each (IsWaiting new) after
 
--- Holds if `after` wait in the new text whenever all of `ps` are in place in the old text and
--- `before` wait in the new text.
+-- Holds if `after` wait in the new text whenever `ps` are in place in the old text and `before`
+-- wait in the new text.
 abbrev pub CarriesAllMade : SameTokens
     → List Procedure
     → List KeptProcedure
@@ -166,8 +166,8 @@ CarriesBody same a b =
     → IsBodyThere old a
     → IsBodyThere new b
 
--- Holds if the optional body `b` is at its place in the new text whenever the optional body `a` is
--- at its place in the old text.
+-- Holds if the body `b`, if any, is in place in the new text whenever the body `a`, if any, is in
+-- place in the old text.
 abbrev pub CarriesAnyBody : SameTokens → Option KeptBody → Option KeptBody → Type 0
 CarriesAnyBody same a b =
     (old new : List Token) → HasSameTokens same old new → IsBodyKept old a → IsBodyKept new b
