@@ -95,8 +95,8 @@ impl Analyses {
         Ok(())
     }
 
-    /// Adds this many bytes to the total, and drops the least recently used analyses until the total is within the
-    /// bound or no analysis is left.
+    /// Adds this many bytes to the total, and drops the least recently used analyses. It stops when the total is within
+    /// the bound or no analysis is left.
     fn free(&mut self, bytes: usize)
         ensures { KeepsOnly self.old self.new }
     {
