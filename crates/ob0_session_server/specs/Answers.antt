@@ -278,7 +278,7 @@ pub record AnswersFirst (before : ServerState) (content : List ℕ) (sent : List
   pub all : sent ≡ first ++ later
 
 -- Holds if a server in the state `before` may reply to these contents, one after another, with
--- these messages in order, and is then in the state `after`.
+-- these messages in order. It is then in the state `after`.
 abbrev pub Conversation : ServerState → List (List ℕ) → List (List ℕ) → ServerState → Type 0
 Conversation before [] sent after = (sent ≡ []) × (after ≡ before)
 Conversation before (content ∷ contents) sent after =
