@@ -1,5 +1,5 @@
-//! //! The tokens at which a module has faults. After a change that keeps the spelling of all tokens, they give the
-//! faults their spans in the new text.
+//! The tokens at which a module has faults. After a change that keeps the spelling of all tokens, they give the faults
+//! their spans in the new text.
 
 ghost use Rattle.std.specs.Prelude.{◌≡◌, ◌==◌, true, IfOk, map};
 ghost use Rattle.ob0_scope_table.specs.FaultTokens.{fault_at, first_start};

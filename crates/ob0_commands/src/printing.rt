@@ -25,7 +25,7 @@ pub(crate) const PIECE_SIZE: usize = 8192;
 
 /// A writer that remembers whether it has been flushed since the last write, and whether it has failed.
 pub trait Output: Write {
-    // // Returns true if a flush has succeeded since the last write of at least one byte.
+    // Returns true if a flush has succeeded since the last write of at least one byte.
     ghost is_flushed: { Self → Bool };
 
     // Returns true if a call of `write_tracked` or `flush_tracked` has failed.

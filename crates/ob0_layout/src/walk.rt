@@ -1,4 +1,4 @@
-//! //! Visits a module and gives each of its tokens its role in its line.
+//! Visits a module and gives each of its tokens its role in its line.
 
 ghost use Rattle.std.specs.Prelude.{◌≡◌, ◌++◌, ◌∷◌, [], IfOk};
 ghost use Rattle.ob0_layout.specs.declared.line_role.LineRole.TheVariants.{Begins, Plain};

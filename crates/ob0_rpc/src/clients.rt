@@ -1,4 +1,4 @@
-//! //! Reads the capabilities of clients.
+//! Reads the capabilities of clients.
 //!
 //! A capability counts as absent if its value, or an object on the path to it, has another JSON type than expected.
 ghost use Rattle.std.specs.Prelude.{◌≡◌, ◌∷◌, [], codes, is_some, option_map, option_and_then};

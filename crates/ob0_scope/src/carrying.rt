@@ -1,4 +1,4 @@
-//! //! Reuses the bindings of a module after the statements of one body were replaced.
+//! Reuses the bindings of a module after the statements of one body were replaced.
 
 ghost use Rattle.std.specs.Prelude.{◌≡◌, ◌++◌, ◌∷◌, [], IfOk, OnOk};
 ghost use Rattle.ob0_tree.specs.View.{block_of, body_of, procedure_of};

@@ -1,4 +1,4 @@
-//! //! Finds the name at a place of a module's text, and the tokens that refer to a declaration.
+//! Finds the name at a place of a module's text, and the tokens that refer to a declaration.
 //!
 //! The definitions pair the identifiers of the tree, each with its role and token, with the labels of the numbered
 //! tree. They don't use a table of ordinals. The code reads the tokens of a declaration from the table, starting at the

@@ -1,4 +1,4 @@
-//! //! Finds the newest binding of each name.
+//! Finds the newest binding of each name.
 //!
 //! Each name that was ever bound is in a list with its newest binding, and a map has its position in that list. A name
 //! keeps its position, so hiding and removing a binding change only the list and allocate nothing. A binding has its

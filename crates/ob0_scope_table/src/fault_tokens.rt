@@ -1,5 +1,4 @@
-//! //! Describes faults by their tokens, so that they can be moved to the same tokens of a text with the same
-//! spellings.
+//! Describes faults by their tokens, so that they can be moved to the same tokens of a text with the same spellings.
 
 ghost use Rattle.std.specs.Prelude.{◌≡◌, ◌≤◌, IfOk, length, map, nat_lt};
 ghost use Rattle.std.specs.List.Sorted.{IsNonDecreasingBy, IsPartitionPoint};

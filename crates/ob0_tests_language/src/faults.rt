@@ -109,8 +109,7 @@ static CHANGES: &[(&str, u64, u64, &str)] = changes![
     // A name that is replaced by another one, and by one that is already declared.
     TWO_VARIABLES, 17, 18, "z";
     TWO_VARIABLES, 17, 18, "x";
-    // // One more statement in a procedure that another procedure follows, and half a statement in the second
-    // procedure.
+    // One more statement in a procedure that another procedure follows, and half a statement in the second procedure.
     "MODULE M; VAR x: INTEGER; PROCEDURE P; BEGIN x := 1 END P; PROCEDURE Q; BEGIN P; y := 1 END Q; BEGIN Q END M.",
         51, 51, "; x := TRUE";
     "MODULE M; VAR x: INTEGER; PROCEDURE P; BEGIN x := z END P; PROCEDURE Q; BEGIN P; y := 1 END Q; BEGIN Q END M.", 86, 88, "";

@@ -1,4 +1,4 @@
-//! //! Defines the events of worlds as tables write them, and the reports on them.
+//! Defines the events of worlds as tables write them, and the reports on them.
 //!
 //! If an allocation for the events themselves fails, they are made a second time. That succeeds, because only one
 //! allocation of a run fails.

@@ -1,4 +1,4 @@
-//! //! Computes the nesting of a module's constructs.
+//! Computes the nesting of a module's constructs.
 //!
 //! The private functions use saturating addition, so that the recursive functions need no precondition: their clauses
 //! say `capped (nesting ..)`. `Module::nesting` removes the cap, because by its invariant a module has at most 100

@@ -1,4 +1,4 @@
-//! //! Operations on the values of constants. An operand may lack a value. If the left operand of OR or `&` settles the
+//! Operations on the values of constants. An operand may lack a value. If the left operand of OR or `&` settles the
 //! result, that is the result, even if the right operand has no value.
 
 ghost use Rattle.std.specs.Prelude.{◌≡◌, Some, option_and_then, option_map};
