@@ -15,8 +15,8 @@ use Rattle.ob0_types.specs.declared.checked.ModuleTypes.{ModuleTypes}
 use Rattle.ob0_analysis.specs.declared.last_module.LastModule.{LastModule}
 
 -- Holds if an earlier text was a module with this tree, these bindings and these results for types.
--- `s` counts the tokens at its beginning and end that have the same kinds and spelling as those of
--- the current text `new`.
+-- `s` counts the tokens at its beginning and end that have the same kinds and spelling as the tokens
+-- at the beginning and end of the current text `new`.
 pub record HadModule
     (new : Scanned) (tree : ModuleTree) (b : Bindings) (types : ModuleTypes) (s : SameTokens)
     : Type 0 where

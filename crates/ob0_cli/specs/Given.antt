@@ -25,7 +25,7 @@ IsNumber id rows n =
     × (one_of id rows ≡ Some digits)
     × (n ≡ digits_value 10 (without_leading_plus digits))
 
--- Holds if the command line is that of the subcommand with this name, and has the values found for
+-- Holds if the command line belongs to the subcommand with this name, and has the values found for
 -- its arguments.
 abbrev pub HoldsValues : Text → List Row → CommandLine → Type 0
 HoldsValues name rows Serve = name ≡ codes "serve"

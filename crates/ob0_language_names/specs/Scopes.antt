@@ -67,7 +67,7 @@ abbrev pub label_of : {N M : Type 0} → Naming N → Labels N M → Scope N →
 label_of naming label scope x = label (ordinal_of naming scope x) x
 
 -- Returns a tree without declarations, with labels instead of names. Names are looked up in
--- `scope`, and the labels of fields are those of unbound names.
+-- `scope`, and the names of fields get the labels of unbound names.
 abbrev pub relabel_uses : {N M : Type 0} {s : Sort}
     → Naming N
     → Labels N M

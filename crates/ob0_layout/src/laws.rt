@@ -14,7 +14,7 @@ ghost use Rattle.ob0_layout.specs.Layout.{solid, laid_out, layout};
 ghost use Rattle.ob0_layout.specs.Gaps.{IsWhite, all_gaps, changed_gaps, laid_len};
 ghost use Rattle.ob0_layout.specs.LineRoles.{line_roles};
 
-/// Proves that a formatted text is cut into the formatted lexemes. Its tokens and comments are those of the original
+/// Proves that a formatted text is cut into the formatted lexemes. It has the same tokens and comments as the original
 /// text.
 pub fn lexemes_stay()
     ensures lexed { (indent : Indent) (s : Scanned) (scan : IsScan s)

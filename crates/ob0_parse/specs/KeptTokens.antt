@@ -166,8 +166,8 @@ CarriesBody same a b =
     → IsBodyThere old a
     → IsBodyThere new b
 
--- Holds if the body `b`, if any, is in place in the new text whenever the body `a`, if any, is in
--- place in the old text.
+-- Holds if in any two texts with these same tokens, `b` is in place in the new text whenever `a` is
+-- in place in the old text. An absent body counts as in place.
 abbrev pub CarriesAnyBody : SameTokens → Option KeptBody → Option KeptBody → Type 0
 CarriesAnyBody same a b =
     (old new : List Token) → HasSameTokens same old new → IsBodyKept old a → IsBodyKept new b

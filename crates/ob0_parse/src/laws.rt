@@ -8,7 +8,7 @@ ghost use Rattle.ob0_tree.specs.Tree.{Tree, module_text};
 ghost use Rattle.ob0_parse_descent.specs.Descent.{DescendsText, Done, OneStop};
 ghost use Rattle.ob0_parse.specs.DescentExamples.{DeepRows, ExpectedRows};
 
-/// Proves that the tokens determine the stop of the descent: its place, and what is expected there.
+/// Proves that the tokens determine the place at which the descent stops, and the token or construct expected there.
 pub fn one_stop()
     ensures { OneStop }
 {}

@@ -149,7 +149,7 @@ NameIs ts at true = (rest ts at ≡ Name at ∷ rest ts (at + 1)) × (at < lengt
 NameIs ts at false = NoName ts at
 
 -- Holds for a returned index if this reserved word or symbol is at `at`, and the index is the next
--- one. Holds for a refusal if another token is there, and this one is reported as expected.
+-- one. Holds for a refusal if another token is at `at`, and this one is reported as expected.
 abbrev pub ReadsToken : TokenKind → List Token → ℕ → Result ℕ ParseRefusal → Type 0
 ReadsToken k ts at (Ok next) =
     (rest ts at ≡ Mark k ∷ rest ts next) × (at < length ts) × (next ≡ at + 1)
@@ -157,7 +157,7 @@ ReadsToken k ts at (Err e) =
     Other (Mark k) ts at × (Some e ≡ option_map (Syntax at) (expected_token k))
 
 -- Holds for a returned identifier if it is at the index `at`, and is returned with the next index.
--- Holds for a refusal if another token is there, and an identifier is reported as expected.
+-- Holds for a refusal if another token is at `at`, and an identifier is reported as expected.
 abbrev pub ReadsName : List Token → ℕ → Result (ℕ × ℕ) ParseRefusal → Type 0
 ReadsName ts at (Ok x) =
     (rest ts at ≡ Name at ∷ rest ts x.1) × (at < length ts) × (x.0 ≡ at) × (x.1 ≡ at + 1)

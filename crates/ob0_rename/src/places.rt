@@ -20,7 +20,7 @@ use ob0_types::{Identified, WellTyped, meant_at};
 use std::alloc::{AllocError, Global};
 
 /// Returns the identifier at a byte offset, and its meaning. A field's name is spelled as an identifier. Returns None
-/// if no name or field is there.
+/// if there is none.
 pub(crate) fn identified(well_typed: &WellTyped<'_>, offset: usize) -> Option<Identified>
     ensures found { result ≡ meant_at well_typed.now offset }
     ensures spelled { IfSome result (λ x. IsField x.means

@@ -1,5 +1,5 @@
 -- The walk over a module's identifiers in text order, which collects their ordinals in a list of
--- marks. The definitions are those of `Visiting`.
+-- marks. It visits as `Visiting` defines.
 -- Rule: none; for contracts of the walk over identifiers.
 use Rattle.std.specs.Prelude.{ℕ, List, [], ◌∷◌, ◌++◌, Option}
 use Rattle.ob0_scope_numbering.specs.Marks.{OrdinalMark}

@@ -1,5 +1,5 @@
 -- The walk over a module's identifiers in text order, which enters their ordinals into a table by
--- token. The definitions are those of `Visiting`.
+-- token. It visits as `Visiting` defines.
 -- Rule: none; for contracts of the walk over identifiers.
 use Rattle.std.specs.Prelude.{ℕ, List, [], Option, None, length, replicate, slice_set}
 use Rattle.ob0_tree.specs.declared.tree.Role.{Role}

@@ -10,7 +10,7 @@ use Rattle.ob0_scope_table.specs.Resolution.{ordinal_in}
 use Rattle.ob0_language_names.specs.Scopes.{same_ordinal}
 
 -- A text with the ordinals of its identifiers by token. `declaration` is the ordinal of the renamed
--- declaration, or None if none is renamed. `new` is its new name.
+-- declaration, or None if no declaration is renamed. `new` is its new name.
 pub record Writing : Type 0 where
   pub source : Scanned
   pub ordinals : List (Option ℕ)

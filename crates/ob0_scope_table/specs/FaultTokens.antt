@@ -32,14 +32,14 @@ fault_at source f =
     }
 
 -- Returns the index of the first token that doesn't begin before a place. Returns the number of
--- tokens for place 0, which counts as a place where no token begins.
+-- tokens for place 0, because place 0 counts as a place at which no token begins.
 abbrev pub begun_at : List Token → ℕ → ℕ
 begun_at tokens place =
     if place == 0 then length tokens
     else prefix_len (λ (t : Token). nat_lt t.span.start place) tokens
 
 -- Returns the index of the first token that doesn't end before a place. Returns the number of
--- tokens for place 0, where no token ends.
+-- tokens for place 0, because no token ends at place 0.
 abbrev pub ended_at : List Token → ℕ → ℕ
 ended_at tokens place =
     if place == 0 then length tokens

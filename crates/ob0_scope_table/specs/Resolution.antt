@@ -103,8 +103,8 @@ IsBinding m ordinals =
     relabelled as_names with_ordinal (named_tree_of m)
     ≡ mapped (bound_at m.source ordinals) (value_at m.source) (tree_of m)
 
--- returns a fault `Undeclared` for each of these occurrences whose label, in the second list, is
--- that of an unbound name
+-- returns a fault `Undeclared` for each of these occurrences that is unbound by its label in the
+-- second list
 abbrev pub unbound_at : Scanned → List ℕ → List Label → List Fault
 unbound_at source [] labels = []
 unbound_at source (token ∷ tokens) [] = []
@@ -135,8 +135,8 @@ abbrev pub NamesAlone : Parsed → List (Option ℕ) → Type 0
 NamesAlone m ordinals =
     (token : ℕ) → is_identifier_of m token ≡ false → ordinal_in ordinals token ≡ None
 
--- Holds if the ordinals, declaring tokens, occurrences and faults of a resolved module are those of
--- its text.
+-- Holds if the ordinals, declaring tokens, occurrences and faults of a resolved module are correct
+-- for its text.
 pub record IsResolution (r : Resolution) : Type 0 where
   pub parsed : IsParsed r.module_read
   pub numbering : IsNumbering r.module_read r.ordinals

@@ -79,7 +79,7 @@ fn place_fault(tokens: &Tokens, fault: &FaultAt) -> Fault
 }
 
 /// Returns the index of the first token that doesn't begin before a place, found by binary search. Returns the number
-/// of tokens for place 0, which counts as a place where no token begins.
+/// of tokens for place 0, because place 0 counts as a place at which no token begins.
 fn token_begun(tokens: &[Token], place: usize) -> usize
     ensures { IsNonDecreasingBy (λ (t : token.Token). t.span.start) tokens.now
         → result ≡ begun_at tokens.now place }
@@ -91,7 +91,7 @@ fn token_begun(tokens: &[Token], place: usize) -> usize
 }
 
 /// Returns the index of the first token that doesn't end before a place, found by binary search. Returns the number of
-/// tokens for place 0, where no token ends.
+/// tokens for place 0, because no token ends at place 0.
 fn token_ended(tokens: &[Token], place: usize) -> usize
     ensures { IsNonDecreasingBy (λ (t : token.Token). t.span.end) tokens.now
         → result ≡ ended_at tokens.now place }

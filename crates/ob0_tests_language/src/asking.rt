@@ -29,7 +29,8 @@ pub enum Asked {
     NameAt(usize),
     /// The hover text of each name, followed by a bar.
     Shown,
-    /// The output and the end of a run on an input, with a bound on open calls and a bound on the iterations of a loop.
+    /// The output and the end of a run on an input. The run has a bound on open calls, and a bound on the iterations of
+    /// a loop.
     Run(&'static [i32], u32, u32),
     /// The names of the nodes to which the statements are lowered.
     Code,

@@ -35,8 +35,8 @@ fn assigns_factor(s: &Statement) -> Option<bool> {
     }
 }
 
-/// Returns true if the statements are this many assignments, whose values all have the small form if `factor` is true,
-/// and all another form if it is false.
+/// Returns true if the statements are this many assignments, and all values have the form that `factor` says. If it is
+/// true, that is the small form, otherwise another form.
 fn are_assignments(statements: &[Statement], count: usize, factor: bool) -> bool {
     for s in statements {
         if assigns_factor(s) != Some(factor) {
@@ -55,7 +55,7 @@ fn has_assignments(module: &Module<'_>, count: usize, factor: bool) -> bool {
     }
 }
 
-/// Returns true if the tokens are a module whose body consists of this many assignments, whose values all have the
+/// Returns true if the tokens are a module whose body consists of this many assignments. Their values all have the
 /// small form or all another form, as `factor` says.
 fn are_parsed(alloc: Global, tokens: &Tokens, count: usize, factor: bool) -> bool {
     match parse(alloc, tokens) {
@@ -64,7 +64,7 @@ fn are_parsed(alloc: Global, tokens: &Tokens, count: usize, factor: bool) -> boo
     }
 }
 
-/// Returns true if the text is a module whose body consists of this many assignments, whose values all have the small
+/// Returns true if the text is a module whose body consists of this many assignments. Their values all have the small
 /// form or all another form, as `factor` says.
 fn all_assign(alloc: Global, text: &str, count: usize, factor: bool) -> bool {
     match scan(alloc, text) {

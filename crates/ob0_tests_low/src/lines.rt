@@ -175,8 +175,8 @@ static COLUMNS: &[&[u64]] = &[
     &[10, 120, 60, 64, 128, 1, 90, 89],
 ];
 
-/// Returns true if the stores of a text agree far to the right in its lines, both at first and after the lines are
-/// changed at all columns.
+/// Returns true if the stores of a text agree far to the right in its lines. They must also agree after the lines are
+/// changed, at all columns.
 fn are_alike_far_in(alloc: Global, text: &str, unit: Unit) -> Result<bool, AllocError> {
     if !stores_of(alloc, text, unit)?.are_alike(4, 160) {
         return Ok(false);

@@ -36,7 +36,7 @@ identifiers_from i (t ∷ ts) = identifier_at i t.kind ++ identifiers_from (i + 
 abbrev pub IsIdentifierToken : List Token → ℕ → Type 0
 IsIdentifierToken ts i = (i < length ts) × HoldsAt (λ t. t.kind ≡ kind.Identifier) ts i
 
--- Holds if each of these indexes is that of an identifier among the tokens.
+-- Holds if there is an identifier at each of these indexes in the list of tokens.
 abbrev pub AreIdentifiers : List Token → List ℕ → Type 0
 AreIdentifiers ts [] = Unit {0}
 AreIdentifiers ts (i ∷ others) = IsIdentifierToken ts i × AreIdentifiers ts others

@@ -195,8 +195,8 @@ abbrev pub owned_module : {P : Type 0}
     → List (ℕ × Option ℕ)
 owned_module m (is_module x b closing) = (x, None) ∷ (owned_block m 0 b ++ ((closing, None) ∷ []))
 
--- Returns the meanings of names, where a name is its token. `objects` gives the object of each
--- ordinal; a token that isn't bound has none.
+-- Returns the meanings of names; each name is given by its token. `objects` gives the object of
+-- each ordinal. A token that isn't bound has no object.
 abbrev pub token_objects : (ℕ → Option (Object Shape Signature))
     → Resolution
     → Meanings ℕ Shape Signature

@@ -34,11 +34,11 @@ abbrev pub found_type : SearchState → Option Shape
 found_type (is_found found) = found
 found_type (is_after n) = None
 
--- returns the meanings of names, where a name is its token, according to the table of the walk
+-- returns the meanings of names according to the walk's table; each name is given by its token
 abbrev pub meanings_in : ConstructorWalk → Meanings ℕ Shape Signature
 meanings_in w = token_objects (declared_in w.known.now) w.resolved.now
 
--- returns the shape of a type of the walk's table; None stays None
+-- returns the shape of a type of the walk's table; for None, returns None
 abbrev pub type_in : ConstructorWalk → Option TypeId → Option Shape
 type_in w of = option_map (type_shape (shapes_of w.known.now)) of
 

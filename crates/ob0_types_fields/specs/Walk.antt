@@ -13,8 +13,8 @@ use Rattle.ob0_types_fields.specs.declared.field_name.FieldName.{FieldName}
 use Rattle.ob0_types_fields.specs.declared.owning.Owning.{Owning}
 use Rattle.ob0_types_fields.specs.Owned.{marked_field, marked_tree, owner, token_objects}
 
--- returns the meanings of names, where a name is its token, according to the walk's table of
--- declarations
+-- returns the meanings of names according to the walk's table of declarations; each name is given
+-- by its token
 abbrev pub meaning_in : Owning → Meanings ℕ Shape Signature
 meaning_in w = token_objects (declared_in w.known.now) w.resolved.now
 
