@@ -37,15 +37,15 @@ pub record AreKeptBefore (c : RescanInPlace) (procedures : Kept) (last : Option 
   pub alike : c.alike ≡ true → AreKept c.rescan.tokens.tokens procedures
   pub was : IfSome last (WasLast old)
 
--- Holds if the places are the tokens at which this module has faults. `front` must be true exactly if the first token
--- starts at byte 0 or there is no token.
+-- Holds if the places are the tokens at which this module has faults. `front` must be true exactly
+-- if the first token starts at byte 0 or the text has no tokens.
 pub record ArePlacesOf
     (source : Scanned) (b : Bindings) (types : ModuleTypes) (places : FaultPlaces) : Type 0 where
   pub names : places.names.items ≡ map (tokens_of source.tokens) b.faults.items
   pub of_types : places.types.items ≡ map (tokens_of source.tokens) types.faults.items
   pub front : places.front ≡ (first_start source == 0)
 
--- holds if `c` has the bindings of `b`, with the faults at these tokens of the text
+-- holds if `c` has the bindings of `b`, and faults at these tokens of the text
 pub record HasFaultsAt
     (source : Scanned) (b : Bindings) (places : List FaultAt) (c : Bindings) : Type 0 where
   pub ordinals : c.ordinals.items ≡ b.ordinals.items
@@ -53,7 +53,7 @@ pub record HasFaultsAt
   pub occurrences : c.occurrences.items ≡ b.occurrences.items
   pub faults : c.faults.items ≡ map (fault_at source) places
 
--- holds if `moved` has the results of `types`, with the faults at these tokens of the text
+-- holds if `moved` has the results of `types`, and faults at these tokens of the text
 pub record HasTypesAt
     (source : Scanned) (types : ModuleTypes) (places : List FaultAt) (moved : ModuleTypes)
     : Type 0 where
@@ -72,8 +72,9 @@ pub record IsModuleOver
   pub types_are : AreTypesOf (resolution_by (parsed_by source tree) b) types
   pub places_are : ArePlacesOf source b types places
 
--- Holds if the previous text was the given module (`was`), with faults at these places. The scan of the changed text
--- reports correctly which tokens, kinds, names and spellings both texts share.
+-- Holds if the previous text was the module with this tree, these bindings and these results for
+-- types, with faults at these places. The scan of the changed text reports correctly which tokens,
+-- kinds, names and spellings both texts share.
 pub record IsModuleBefore
     (c : RescanInPlace) (tree : ModuleTree) (b : Bindings) (types : ModuleTypes)
     (places : FaultPlaces) : Type 0 where
@@ -89,7 +90,8 @@ pub record IsModuleBefore
   pub same_words : c.same_words ≡ true
       → words_in c.rescan.tokens.text c.rescan.tokens.tokens ≡ words_in old.text old.tokens
 
--- holds if the previous text was the given module, and its tokens have the same spelling as the tokens of the new text
+-- Holds if the previous text was the module with these parts and faults. Its tokens have the same
+-- spelling as the tokens of the text `new`.
 pub record IsWrittenAsBefore
     (new : Scanned) (tree : ModuleTree) (b : Bindings) (types : ModuleTypes) (places : FaultPlaces)
     : Type 0 where
@@ -98,8 +100,9 @@ pub record IsWrittenAsBefore
   pub alike : AreWrittenAlike old new
   pub parsed : IsParsed (parsed_by new tree)
 
--- Holds if the faults of an error are the lexical faults of a changed text. The parser's refusal, the kept procedures
--- and the last module must still belong to the returned old tokens. An error for lack of memory claims nothing.
+-- Holds for lexical faults if they are the faults of the changed text. The returned old tokens must
+-- still have this refusal, these kept procedures and this last module. Always holds for lack of
+-- memory.
 abbrev pub IsUnreadRefusal : List ℕ
     → ParseRefusal
     → Kept
@@ -114,8 +117,8 @@ IsUnreadRefusal text refusal procedures last (rescanned.Faults faults tokens) =
     × IfSome last (WasLast tokens)
 IsUnreadRefusal text refusal procedures last rescanned.Memory = Unit {0}
 
--- Holds if the faults of an error are the lexical faults of a changed text. The tree, the bindings and the results for
--- types must still belong to the returned old tokens. An error for lack of memory claims nothing.
+-- Holds for lexical faults if they are the faults of the changed text. The returned old tokens must
+-- still have this tree, these bindings and these types. Always holds for lack of memory.
 abbrev pub IsUnreadModule : List ℕ
     → ModuleTree
     → Bindings

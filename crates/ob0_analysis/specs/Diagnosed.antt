@@ -70,16 +70,17 @@ place_in text None = record { start = length text; end = length text }
 abbrev pub place_of : Scanned → ℕ → Span
 place_of s token = place_in s.text (slice_get s.tokens token)
 
--- returns the complaint that the parser expects another token at this place
+-- returns the complaint that the parser expects this word at this place
 abbrev pub expects : List ℕ → Span → Complaint
 expects word place =
     record { code = codes "Syntax"; said = codes "expected " ++ word; span = place }
 
--- returns the complaint that a construct at nesting level 101 opens at this place
+-- returns the complaint that nesting is too deep at this place
 abbrev pub too_deep : Span → Complaint
 too_deep place = record { code = codes "TooDeep"; said = codes "nested too deep"; span = place }
 
--- holds if the complaint reports this refusal of the tokens by the parser
+-- Holds if the complaint reports this refusal by the parser, at the refused token. Lack of memory
+-- is never reported.
 abbrev pub IsRefusalAt : Scanned → ParseRefusal → Complaint → Type 0
 IsRefusalAt s (Syntax token expected) c = c ≡ expects (expected_text expected) (place_of s token)
 IsRefusalAt s (TooDeep token) c = c ≡ too_deep (place_of s token)
@@ -118,7 +119,8 @@ abbrev pub ReportsFaults : List ℕ → List Complaint → Type 0
 ReportsFaults text reported =
     ReportsLexemes text reported ⊎ (ReportsParser text reported ⊎ ReportsTypes text reported)
 
--- holds if nothing is reported for a well-typed module, and the errors are reported for any other text
+-- holds if the text is a well-typed module and nothing is reported, or it isn't one and its errors
+-- are reported
 abbrev pub Reports : List ℕ → List Complaint → Type 0
 Reports text reported =
     (IsWellTypedModule text × (reported ≡ []))
@@ -126,7 +128,7 @@ Reports text reported =
 
 -- ---- laws
 
--- Any two reports of the parser's refusal of one text are equal.
+-- Two reports of the parser's refusal for the same text are equal.
 abbrev pub OneRefusal : Type 0
 OneRefusal =
     (text : List ℕ) (a b : List Complaint) → ReportsParser text a → ReportsParser text b → a ≡ b

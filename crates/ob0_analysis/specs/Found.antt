@@ -25,13 +25,14 @@ IsDecided Memory = ⊥
 abbrev pub IsRefusedByParser : Scanned → ParseRefusal → Type 0
 IsRefusedByParser tokens refusal = RefusedBy tokens refusal × IsDecided refusal
 
--- returns the text of a reading
+-- returns the text that a reading was made from
 abbrev pub text_read : Reading → List ℕ
 text_read (NoTree ill) = ill.tokens.text
 text_read (Module m) = m.module_read.source.text
 
--- Holds for every module. For a text without a tree: the parser refuses its tokens as stated, the kept procedures
--- belong to its tokens, and the last module came before it.
+-- Holds for every module. For a text without a tree three things must hold: the parser refuses its
+-- tokens with this refusal, the kept procedures belong to its tokens, and the last module came
+-- before it.
 abbrev pub IsRead : Reading → Type 0
 IsRead (NoTree ill) =
     IsRefusedByParser ill.tokens ill.refusal
@@ -39,8 +40,8 @@ IsRead (NoTree ill) =
     × IfSome ill.last (WasLast ill.tokens)
 IsRead (Module m) = Unit {0}
 
--- Holds if the faults of an error are the lexical faults of a text that has no lexemes. An error for lack of memory
--- claims nothing.
+-- Holds for an error with lexical faults if the text has no lexemes and these are its faults. It
+-- always holds for lack of memory.
 abbrev pub IsUnread : List ℕ → NotRead → Type 0
 IsUnread text (not_read.Faults faults last) = (IsScannable text → ⊥) × AreFaults text faults.items
 IsUnread text not_read.Memory = Unit {0}
@@ -50,7 +51,8 @@ abbrev pub text_of : Findings → List ℕ
 text_of (NoLexemes ill) = string_bytes ill.text
 text_of (Read read) = read
 
--- Holds for every text that has lexemes. A text without lexemes has the stated faults.
+-- Holds for every text that has lexemes. Holds for another text if it can't be scanned and has
+-- these faults.
 abbrev pub IsFound : Findings → Type 0
 IsFound (NoLexemes ill) =
     (IsScannable (string_bytes ill.text) → ⊥) × AreFaults (string_bytes ill.text) ill.faults.items

@@ -14,8 +14,9 @@ use Rattle.ob0_types.specs.CheckedModules.{AreTypesOf}
 use Rattle.ob0_types.specs.declared.checked.ModuleTypes.{ModuleTypes}
 use Rattle.ob0_analysis.specs.declared.last_module.LastModule.{LastModule}
 
--- Holds if an earlier text was a module with this tree, these bindings and these types. Its first and last tokens have
--- the same kinds and spelling as the first and last tokens of the current text.
+-- Holds if an earlier text was a module with this tree, these bindings and these results for types.
+-- `s` counts the tokens at its beginning and end that have the same kinds and spelling as the tokens
+-- at the beginning and end of the current text `new`.
 pub record HadModule
     (new : Scanned) (tree : ModuleTree) (b : Bindings) (types : ModuleTypes) (s : SameTokens)
     : Type 0 where
@@ -28,14 +29,15 @@ pub record HadModule
   pub same : HasSameTokens s old.tokens new.tokens
   pub written : HasSameWords s old new
 
--- holds if an earlier text was a module, and the tokens that may differ lay in its body at `last.place`
+-- holds if an earlier text was a module, and all tokens that may differ from it lay in its body at
+-- `last.place`
 pub record WasLast (new : Scanned) (last : LastModule) : Type 0 where
   pub tree : ModuleTree
   pub had : HadModule new tree last.bindings last.types last.same
   pub placed : body_place last.same.prefix last.same.old_suffix (tree_in tree) ≡ Some last.place
 
--- Holds if `wider` extends the range of differences `same`. Both ranges grow equally at their end, in the old text and
--- in the new text.
+-- Holds if `wider` extends the range of differences `same` at both ends. At its end the range grows
+-- by the same number of tokens in the old and in the new text.
 pub record IsStillSame (same wider : SameTokens) : Type 0 where
   pub front : wider.prefix ≤ same.prefix
   pub back : same.old_suffix ≤ wider.old_suffix

@@ -9,7 +9,8 @@ use Rattle.ob0_scope_table.specs.declared.resolved.Bindings.{Bindings}
 use Rattle.ob0_types.specs.declared.checked.ModuleTypes.{ModuleTypes}
 use Rattle.ob0_analysis.specs.LastModule.{HadModule}
 
--- holds if the previous text was a module, and all tokens of the current text have the same kinds as its tokens
+-- holds if the previous text was a module with these results, and the tokens of both texts have the
+-- same kinds
 pub record HadTree
     (new : Scanned) (tree : ModuleTree) (b : Bindings) (types : ModuleTypes) (s : SameTokens)
     : Type 0 where

@@ -58,8 +58,8 @@ use ob0_scan::{Fault, ScanRefusal, scan};
 use std::alloc::{AllocError, Global};
 use std::marker::Model;
 
-/// The previous analysis is reused unless half of the room of its lists exceeds the new text's
-/// length by more than this number of bytes.
+/// A previous analysis is dropped if half of the room of its lists exceeds the new text's length by more than this
+/// number of bytes.
 const SPARED: usize = 4096;
 
 /// The analysis of a text with lexical faults: the text, its faults, and the analysis of the last text that had
@@ -144,6 +144,8 @@ impl Analysis {
         }
     }
 
+    /// Analyses a text after a text with lexical faults, starting from the last text that had lexemes, if it is kept.
+    /// `room` is the number of bytes for which its lists have room.
     fn after_faults(
         alloc: Global,
         ill: IllLexed,
@@ -191,6 +193,8 @@ impl Analysis {
         }
     }
 
+    /// Returns the analysis of a text with lexical faults. `last` is the kept analysis of the last text that had
+    /// lexemes, and `room` the number of bytes for which its lists have room.
     fn ill_lexed(
         alloc: Global,
         text: &str,

@@ -31,6 +31,7 @@ pub trait Question {
     /// The relation between the question, the module and its answer.
     ghost answers: { Self → Resolution → Self.Answer → Type 0 };
 
+    /// Answers the question about this module. Fails only if an allocation fails.
     fn answer(&self, alloc: Global, module: &WellTyped<'_>) -> Result<Self::Answer, AllocError>
         requires { is_about self.now module.now.module_read.source.text }
         ensures { IfOk result (λ answer. answers self.now module.now answer) };

@@ -26,6 +26,7 @@ pub fn of_faults(alloc: Global, faults: &[Fault]) -> Result<Vec<Diagnosis>, Allo
     Ok(list)
 }
 
+/// Returns the diagnosis of one fault, with its code's name and message.
 fn of_fault(alloc: Global, fault: &Fault) -> Result<Diagnosis, AllocError>
     ensures { IfOk result (λ d. complaint_in d ≡ complaint_of fault.now) }
 {
@@ -55,6 +56,7 @@ pub fn of_refusal(
     }
 }
 
+/// Returns the diagnosis `expected ..` with this word, at this span.
 fn expects(alloc: Global, word: &str, span: Span) -> Result<Diagnosis, AllocError>
     ensures { IfOk result (λ d. complaint_in d ≡ expected_at word.now span) }
 {
@@ -65,6 +67,7 @@ fn expects(alloc: Global, word: &str, span: Span) -> Result<Diagnosis, AllocErro
     })
 }
 
+/// Returns the diagnosis of a construct that is nested too deep, at this span.
 fn too_deep(alloc: Global, span: Span) -> Result<Diagnosis, AllocError>
     ensures { IfOk result (λ d. complaint_in d ≡ too_deep_at span) }
 {

@@ -1,5 +1,5 @@
-//! The tokens at which a module has faults. If a changed text has tokens with the same spelling, they give the faults
-//! their spans in that text.
+//! The tokens at which a module has faults. After a change that keeps the spelling of all tokens, they give the faults
+//! their spans in the new text.
 
 ghost use Rattle.std.specs.Prelude.{◌≡◌, ◌==◌, true, IfOk, map};
 ghost use Rattle.ob0_scope_table.specs.FaultTokens.{fault_at, first_start};
@@ -54,8 +54,8 @@ fn begins_at_front(tokens: &Tokens) -> bool
     token_span(tokens, 0).start == 0
 }
 
-/// Returns the bindings for a text whose tokens have the same spelling. The faults are moved to their tokens in that
-/// text.
+/// Returns the bindings for a text whose tokens have the same spelling as the module's. The faults are moved to the
+/// same tokens in that text.
 pub(crate) fn move_bindings(
     alloc: Global,
     tokens: &Tokens,
@@ -79,8 +79,8 @@ pub(crate) fn move_bindings(
     })
 }
 
-/// Returns the results of checking types for a text whose tokens have the same spelling. The faults are moved to their
-/// tokens in that text.
+/// Returns the results of checking types for a text whose tokens have the same spelling as the module's. The faults are
+/// moved to the same tokens in that text.
 pub(crate) fn move_types(
     alloc: Global,
     tokens: &Tokens,

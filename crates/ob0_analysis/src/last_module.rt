@@ -61,7 +61,8 @@ impl LastModule {
         }
     }
 
-    /// Returns these results after a further change. Returns None if the change doesn't lie in the body.
+    /// Returns the results for the last module after a further change. Returns None if the change doesn't lie in the
+    /// body that contains all differences so far.
     fn moved(self, change: SameTokens) -> Option<LastModule>
         ensures { StaysLast (Some self) change result }
     {
@@ -85,8 +86,8 @@ impl LastModule {
     }
 }
 
-/// Returns the tokens that both texts share outside a body, if all differences lie between its first identifier and its
-/// END. Otherwise returns None. `count` is the number of the current text's tokens.
+/// Returns the tokens that both texts share outside a body, if all differences lie between the body's first identifier
+/// and the END of its block. Otherwise returns None. `count` is the number of the current text's tokens.
 fn around(same: SameTokens, body: BodyPlace, count: usize) -> Option<SameTokens>
     ensures { IfSome result (λ wider. IsStillSame same wider × (wider.new_suffix ≤ count)) }
 {
@@ -100,7 +101,7 @@ fn around(same: SameTokens, body: BodyPlace, count: usize) -> Option<SameTokens>
 }
 
 /// Extends the range of differences between two texts to `prefix..old_suffix`, as token indexes in the old text.
-/// Returns None if the range isn't within it.
+/// Returns None if the extended range wouldn't contain the range `same`.
 fn widened(same: SameTokens, prefix: usize, old_suffix: usize) -> Option<SameTokens>
     ensures wider { IfSome result (IsStillSame same) }
     ensures prefix { IfSome result (λ wider. wider.prefix ≡ prefix) }

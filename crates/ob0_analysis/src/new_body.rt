@@ -47,7 +47,7 @@ pub(crate) fn module_after(
     Ok(ModuleParts::from_parts(tokens, tree, names, types))
 }
 
-/// Returns true if the earlier and the current module have the same body. Both bodies begin with one identifier before
+/// Returns true if the earlier and the current module have the same body. Both bodies begin at the same token, before
 /// the tokens that may differ, and both end at the same distance after these tokens.
 fn is_same_body(was: BodyPlace, now: Option<BodyPlace>, same: SameTokens) -> bool
     ensures { result ≡ true → IsSameBody was now same }

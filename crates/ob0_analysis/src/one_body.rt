@@ -28,7 +28,8 @@ pub(crate) fn is_in_one_body(tokens: &Tokens, tree: &ModuleTree, same: SameToken
     is_in_body(&read, same.prefix, same.old_suffix)
 }
 
-/// Binds the names again. If only one body differs (`in_body`), only that body's names are bound again.
+/// Binds the names of a text again that has the tree of the previous text. If only one body differs (`in_body`), only
+/// that body's names are bound again.
 pub(crate) fn bind_again(
     alloc: Global,
     tokens: &Tokens,
@@ -51,7 +52,8 @@ pub(crate) fn bind_again(
     }
 }
 
-/// Checks the types again. If only one body differs (`in_body`), the previous results are reused for the rest.
+/// Checks the types of a text again that has the tree of the previous text. If only one body differs (`in_body`), the
+/// previous results are reused for the rest.
 pub(crate) fn check_again(
     alloc: Global,
     tokens: &Tokens,

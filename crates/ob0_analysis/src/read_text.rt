@@ -74,8 +74,8 @@ impl Model for ReadText {
     ghost invariant = { λ r. IsRead r.reading };
 }
 
-/// The reason why a changed text has no tokens: lexical faults or lack of memory. The results for the previous text
-/// come with the faults.
+/// The reason why a changed text could not be analysed: lexical faults or lack of memory. The analysis of the previous
+/// text comes with the faults.
 #[derive(Drop)]
 pub(crate) enum NotRead {
     Faults(Vec<Fault>, ReadText),
@@ -118,6 +118,7 @@ impl ReadText {
         }
     }
 
+    /// Analyses a text that has this tree, with the help of the results for the last module if there are any (`last`).
     fn of_tree(
         alloc: Global,
         tokens: Tokens,
@@ -162,6 +163,7 @@ impl ReadText {
         }
     }
 
+    /// Analyses a changed text if the parser refused the previous text.
     fn after_refusal(alloc: Global, ill: IllFormed, text: &str) -> Result<ReadText, NotRead>
         requires { IsRead (NoTree ill) }
         ensures ok { IfOk result (λ r. r ≡ text.now) }
@@ -179,7 +181,8 @@ impl ReadText {
         }
     }
 
-    /// Returns the error for a changed text without tokens, if the parser refused the previous text.
+    /// Returns the error for a changed text that has lexical faults or for which memory ran out, if the parser refused
+    /// the previous text. The kept results of that text are returned with the faults.
     fn unread_refusal(
         _text: &str,
         unread: NotRescanned,
@@ -242,6 +245,7 @@ impl ReadText {
         })
     }
 
+    /// Analyses a changed text if the previous text was a module.
     fn after_module(alloc: Global, old: ModuleParts, text: &str) -> Result<ReadText, NotRead>
         ensures ok { IfOk result (λ r. r ≡ text.now) }
         ensures err { IfErr result (IsUnread text.now) }
@@ -256,7 +260,8 @@ impl ReadText {
         }
     }
 
-    /// Returns the error for a changed text without tokens, if the previous text was a module.
+    /// Returns the error for a changed text that has lexical faults or for which memory ran out, if the previous text
+    /// was a module. The results for that module are returned with the faults.
     fn unread_module(
         _text: &str,
         unread: NotRescanned,
@@ -327,9 +332,9 @@ impl ReadText {
         ReadText::of_tokens(alloc, tokens, kept, last)
     }
 
-    /// Analyses a text with the same tree as the previous text. If the identifiers have the same spelling and no name
-    /// has a fault, the bindings are kept. Otherwise all names are bound again, because the faults would be at other
-    /// places.
+    /// Analyses a text with the same tree as the previous text. If the identifiers have the same spelling
+    /// (`same_names`) and no name has a fault, the bindings are kept. Otherwise names are bound again, because the
+    /// faults would be at other places.
     fn of_same_tree(
         alloc: Global,
         tokens: Tokens,
@@ -354,8 +359,8 @@ impl ReadText {
         ReadText::of_bindings(alloc, tokens, tree, names, types, same, in_body)
     }
 
-    /// Analyses a text that has the previous tree and these bindings. The previous results for types are reused if
-    /// possible.
+    /// Analyses a text that has the previous tree and these bindings. If only one body differs (`in_body`), the
+    /// previous results for types are reused for the rest.
     fn of_bindings(
         alloc: Global,
         tokens: Tokens,

@@ -1,4 +1,4 @@
--- Defines the command line that a list of words spells.
+-- The command line that a list of words spells.
 -- Rule: docs/PROTOCOL.md, The program; clap's definition of a command line.
 use Rattle.std.specs.Prelude.{◌≡◌, ◌⊎◌, ◌≤◌, ℕ, List, [], Option, Some, codes, if◌then◌else◌, pos}
 use Rattle.std.specs.Str.{bytes_eq}
@@ -18,15 +18,15 @@ use Rattle.ob0_cli.specs.declared.line.CommandFault.TheVariants.{Refused, Memory
 abbrev pub FoundCommand : Type 0
 FoundCommand = Option (Text × List Row)
 
--- Holds if this number is the value of the argument, given or by default.
+-- Holds if the number `n` is the value of this argument, given or by default.
 abbrev pub IsNumber : Text → List Row → ℕ → Type 0
 IsNumber id rows n =
     (digits : Text)
     × (one_of id rows ≡ Some digits)
     × (n ≡ digits_value 10 (without_leading_plus digits))
 
--- Holds if the command line is of the subcommand with this name, and has the values found for its
--- arguments.
+-- Holds if the command line belongs to the subcommand with this name, and has the values found for
+-- its arguments.
 abbrev pub HoldsValues : Text → List Row → CommandLine → Type 0
 HoldsValues name rows Serve = name ≡ codes "serve"
 HoldsValues name rows (Check file) =
@@ -43,14 +43,15 @@ HoldsValues name rows (Rename file position new) =
     × IsNumber (codes "column") rows position.character
     × (first_of (codes "name") rows ≡ Some new.now)
 
--- Holds if the command reads the file at this path.
+-- Holds if the command reads a file and this is the file's path.
 abbrev pub NamesFile : CommandLine → Text → Type 0
 NamesFile Serve path = ⊥
 NamesFile (Check file) path = file.now ≡ path
 NamesFile (Run file calls turns) path = file.now ≡ path
 NamesFile (Rename file position new) path = file.now ≡ path
 
--- Holds if the subcommand found, with its values, is this command line.
+-- Holds if a subcommand was found, and the command line is that subcommand's, with the values
+-- found.
 abbrev pub IsReadFrom : FoundCommand → CommandLine → Type 0
 IsReadFrom found line =
     (name : Text) × (rows : List Row) × (found ≡ Some (name, rows)) × HoldsValues name rows line
@@ -61,8 +62,8 @@ pub record Gives (words : List Text) (line : CommandLine) : Type 0 where
   pub fine : fault_of ob0_app words ≡ []
   pub read : IsReadFrom (subcommand_of ob0_app words) line
 
--- Holds if the words may be refused so. The error's kind is the kind of their first fault, and
--- never 'out of memory'. A failed allocation is allowed for any words.
+-- Holds for a refusal if the error's kind is the kind of a fault of the words, and isn't 'out of
+-- memory'. Always holds for a failed allocation.
 abbrev pub RefusesWords : List Text → CommandFault → Type 0
 RefusesWords words (Refused error) =
     IsAmong (kind_of error) (fault_of ob0_app words) × ¬ (kind_of error ≡ OutOfMemory)
@@ -79,14 +80,14 @@ HasText id rows = (text : Text) × (first_of id rows ≡ Some text)
 abbrev pub most_of : Text → ℕ
 most_of id = if bytes_eq id (codes "calls") then max_calls else max_turns
 
--- Holds if the option has a number from 0 to the greatest that it accepts.
+-- Holds if the option has as its value a number from 0 to the greatest that it accepts.
 abbrev pub HasBounded : Text → List Row → Type 0
 HasBounded id rows =
     (text : Text)
     × (one_of id rows ≡ Some (without_minus text))
     × IsSignedIn (pos 0) (pos (most_of id)) text
 
--- Holds if the argument has an unsigned number of 64 bits.
+-- Holds if the argument has as its value an unsigned number of 64 bits.
 abbrev pub HasPlace : Text → List Row → Type 0
 HasPlace id rows =
     (text : Text) × (one_of id rows ≡ Some text) × IsUnsignedIn 0 18446744073709551615 text

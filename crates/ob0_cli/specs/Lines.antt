@@ -1,11 +1,11 @@
--- Defines the command line of `ob0`, in the terms of clap's definition of a simple command.
+-- The command line of `ob0`, in the terms of clap's definition of a simple command.
 -- Rule: docs/PROTOCOL.md, The program; clap's definition of a command line.
 use Rattle.std.specs.Prelude.{[], ◌∷◌, ℕ, pos, true, Some, codes}
 use Rattle.clap.specs.Words.{App, Rule, Text, new_app, new_rule, with_rule, with_subcommand}
 use Rattle.clap.specs.declared.builder.ArgAction.TheVariants.{Set, SetTrue}
 use Rattle.clap.specs.declared.builder.value_parser.ValueParser.TheVariants.{Signed, Unsigned}
 
--- Returns the rule of a required word. Help has a name for its value, as for each value.
+-- Returns the rule of a required word. In the help, its value has a name, as every value has.
 abbrev pub word_rule : Text → Rule
 word_rule id = record (new_rule id) { action = Some Set; value_names = 1; required = true }
 

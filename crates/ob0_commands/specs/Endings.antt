@@ -12,16 +12,17 @@ use Rattle.ob0_commands.specs.Printed.{fault_line}
 use Rattle.ob0_commands.specs.Statuses.{AllocatesFor, IsOfOutput, PrintsNothing, status_of}
 use Rattle.ob0_commands.specs.declared.faults.FileFault.{FileFault}
 
--- Holds if no fault stops the command: the status is 0 and `Good` holds, or the status is 1 and
--- `Other` holds. `Both` holds for either status.
+-- Holds if no fault stops the command. The status is 0 and `Good` holds, or the status is 1 and
+-- `Other` holds. In both cases `Both` holds.
 pub record EndsWell (Good Other Both : Type 0) (status : ℕ) : Type 0 where
   pub low : status ≤ 1
   pub good : status ≡ 0 → Good
   pub other : status ≡ 1 → Other
   pub both : Both
 
--- Holds if a fault stops the command for a reason, and the status is the fault's. The fault's line
--- is printed on standard error. Nothing is printed on the output, unless the output failed.
+-- Holds if a fault stops the command, for the reason `Stops`, and the status is the fault's. The
+-- fault's line is printed on standard error. Nothing is printed on the output, unless the output
+-- failed.
 pub record EndsByFault {O : Type 0} (has_failed : O → Bool) (before after : O) (file : List ℕ)
     (Stops : FileFault → Type 0) (Said : Option (List ℕ) → Type 0) (status : ℕ) : Type 0 where
   pub why : FileFault

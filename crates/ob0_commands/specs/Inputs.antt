@@ -1,4 +1,4 @@
--- Defines the meaning of `TrackedReader`, and how much is read from a reader.
+-- The wrapped reader of a `TrackedReader`, and the bytes that are read from a reader.
 -- Rule: none; for contracts: a reader that remembers failures.
 use Rattle.std.specs.Prelude.{◌≤◌, ℕ, List, Option, Bool, length}
 use Rattle.std.specs.Io.KnownBytes.{Consumes}
@@ -12,7 +12,8 @@ input_device input = input.device
 abbrev pub input_failed : {R : Type 0} → TrackedReader R → Bool
 input_failed input = input.has_failed
 
--- Holds if at most n of the known bytes of a reader were read.
+-- Holds if at most `n` bytes of a reader were read. If the reader's bytes aren't known, nothing is
+-- required.
 pub record TakesAtMost (n : ℕ) (before after : Option (List ℕ)) : Type 0 where
   pub bytes : List ℕ
   pub taken : Consumes before after bytes

@@ -48,7 +48,6 @@ pub record IsInputOf (ns : List ℤ) (text : List ℕ) : Type 0 where
 abbrev pub IsNoInput : List ℕ → Type 0
 IsNoInput text = ¬ ((ns : List ℤ) × IsInputOf ns text)
 
--- Holds if there are no numbers to run on: the reader has failed, or its bytes, in case they are
--- known, aren't a valid input.
+-- Holds if the reader has failed, or its bytes are known and aren't a valid input.
 abbrev pub HasNoNumbers : Option (List ℕ) → Bool → Type 0
 HasNoNumbers given failed = (failed ≡ true) ⊎ IfSome given IsNoInput

@@ -1,4 +1,4 @@
--- Defines the meaning of `TrackedWriter`, a writer that remembers failures and flushes.
+-- The wrapped writer of a `TrackedWriter`, and its notes on failures and flushes.
 -- Rule: none; for contracts: a writer that remembers failures and flushes.
 use Rattle.std.specs.Prelude.{◌≡◌, ◌⊎◌, Bool, true}
 use Rattle.ob0_commands.specs.declared.printing.TrackedWriter.{TrackedWriter}

@@ -15,7 +15,7 @@ use Rattle.ob0_commands.specs.Statuses.{HasNoText, IsOfInput, StopsPrintingFault
 use Rattle.ob0_commands.specs.TextRuns.{PrintsRuns}
 
 -- Holds if `check` ends with this status. 0: the file has no diagnostics, and nothing is printed.
--- 1: its errors are printed and flushed. With any other status a fault stopped the command.
+-- 1: its errors are printed and flushed. Any other status: a fault stopped the command.
 abbrev pub ChecksFile : {O : Type 0}
     → (contents : O → Option (List ℕ))
     → (is_flushed has_failed : O → Bool)
@@ -31,8 +31,8 @@ ChecksFile contents is_flushed has_failed before after Said file status =
     status
     ⊎ EndsByFault has_failed before after file (StopsPrintingFaults file) Said status
 
--- Holds if `run` ends with this status: it prints the run of the file's module on the numbers of
--- the input, or the file's errors; or a fault stops it.
+-- Holds if `run` ends with this status. 0 or 1: it printed the run of the file's module on the
+-- numbers of the input, or the file's errors. Any other status: a fault stopped the command.
 abbrev pub RunsFile : {O I : Type 0}
     → (contents : O → Option (List ℕ))
     → (is_flushed has_failed : O → Bool)
@@ -55,8 +55,8 @@ RunsFile contents is_flushed has_failed before after Said file remaining input_f
     × IsOfInput (input_failed input) (input_failed left) fault)
     Said status
 
--- Holds if `rename` ends with this status: it prints the file's text with another name at a
--- position, prints the file's errors, or refuses the name; or a fault stops it.
+-- Holds if `rename` ends with this status. 0: it printed the file's text with the new name. 1: it
+-- printed the file's errors or refused the name. Any other status: a fault stopped the command.
 abbrev pub RenamesInFile : {O : Type 0}
     → (contents : O → Option (List ℕ))
     → (is_flushed has_failed : O → Bool)
@@ -73,9 +73,9 @@ RenamesInFile contents is_flushed has_failed before after Said file position new
     status
     ⊎ EndsByFault has_failed before after file (StopsPrintingFaults file) Said status
 
--- Holds if the command of this line ends with this status, as its definition says. Only `run` reads
--- from the input: at most one byte over the limit, and nothing if the file isn't a well-typed
--- module. `serve` isn't a command on a file.
+-- Holds if the command of this line ends with this status, as `ChecksFile`, `RunsFile` or
+-- `RenamesInFile` says. Only `run` reads from the input: at most one byte over the limit, and
+-- nothing if the file isn't a well-typed module. `serve` isn't a command on a file.
 abbrev pub PerformsOnFile : {O I : Type 0}
     → (contents : O → Option (List ℕ))
     → (is_flushed has_failed : O → Bool)

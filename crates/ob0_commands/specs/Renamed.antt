@@ -17,14 +17,16 @@ use Rattle.ob0_commands.specs.Outputs.{IsFlushedOrUnchanged}
 use Rattle.ob0_commands.specs.Printed.{PrintsFaults}
 use Rattle.ob0_commands.specs.Said.{refused_line}
 
--- Holds if known bytes grow by the edited text.
+-- Holds if the edits can be applied to the text, and the known bytes of the output grow by the
+-- edited text.
 pub record PrintsPatched (unit : Unit) (content : List ℕ) (edits : List Edit)
     (before after : Option (List ℕ)) : Type 0 where
   pub text : List ℕ
   pub made : patched (width_of unit) content edits ≡ Some (chars text)
   pub printed : Appends before after text
 
--- Holds if there are edits, not a refusal, and known bytes grow by the edited text.
+-- Holds for edits if they can be applied to the text, and the known bytes of the output grow by the
+-- edited text. Never holds for a refusal.
 abbrev pub PrintsEdited : Unit
     → List ℕ
     → Result (Vec Edit Global) EditRefusal
@@ -35,7 +37,7 @@ PrintsEdited unit content (Ok edits) before after =
     PrintsPatched unit content edits.items before after
 PrintsEdited unit content (Err refusal) before after = ⊥
 
--- Holds if there is a refusal, not edits, and the refusal is printed on standard error.
+-- Holds for a refusal if it is printed on standard error. Never holds for edits.
 abbrev pub IsRefusal : Result (Vec Edit Global) EditRefusal
     → (Option (List ℕ) → Type 0)
     → Type 0

@@ -7,8 +7,8 @@ use Rattle.std.specs.Io.KnownBytes.{Appends}
 use Rattle.ob0_text.specs.RefusalTexts.{refusal_text}
 use Rattle.ob0_text.specs.declared.refusals.EditRefusal.{EditRefusal}
 
--- Holds if standard error gets this line, or nothing for None. A line is printed and flushed,
--- unless the writer has failed. For None the writer is unchanged.
+-- Holds if standard error gets this line, or nothing for None. A line is printed and flushed, or
+-- the writer has failed. For None the writer is unchanged.
 abbrev pub Says : {E : Type 0}
     → (contents : E → Option (List ℕ))
     → (is_flushed has_failed : E → Bool)

@@ -18,7 +18,7 @@ status_of fault.Input = 4
 status_of fault.Write = 4
 status_of fault.Memory = 5
 
--- Holds if the fault is one of printing: the output can't be written or an allocation failed.
+-- Holds if the fault is `Write` or `Memory`: the output can't be written, or an allocation failed.
 abbrev pub StopsPrinting : FileFault → Type 0
 StopsPrinting f = (f ≡ fault.Write) ⊎ (f ≡ fault.Memory)
 
@@ -32,16 +32,15 @@ abbrev pub StopsPrintingFaults : List ℕ → FileFault → Type 0
 StopsPrintingFaults file f =
     ((f ≡ fault.Utf8) × HasNoText file) ⊎ (StopsPrinting f × ¬ (HasNoText file))
 
--- Holds if the file isn't too long, in case the fault is Memory.
+-- Holds if the fault isn't `Memory`, or the file isn't too long.
 abbrev pub AllocatesFor : List ℕ → FileFault → Type 0
 AllocatesFor file f = f ≡ fault.Memory → length file ≤ max_text
 
--- Holds if nothing was printed, unless the fault is `Write`.
+-- Holds if nothing was printed, or the fault is `Write`.
 abbrev pub PrintsNothing : {O : Type 0} → (before after : O) → FileFault → Type 0
 PrintsNothing before after f = f ≢ fault.Write → after ≡ before
 
--- Holds if the fault is the one of this name and `reason` holds, or if an allocation failed and
--- `otherwise` holds.
+-- Holds if the fault is `name` and `reason` holds, or the fault is `Memory` and `otherwise` holds.
 abbrev pub StopsFor : (name : FileFault) → (reason otherwise : Type 0) → FileFault → Type 0
 StopsFor name reason otherwise f = ((f ≡ name) × reason) ⊎ ((f ≡ fault.Memory) × otherwise)
 
@@ -55,19 +54,20 @@ status_at end.InputEnd = 1
 status_at end.CallBound = 1
 status_at end.TurnBound = 1
 
--- Holds if the output has failed exactly as the fault says. After `Write` it has failed, and after
--- any other fault it has failed exactly if it had before.
+-- Holds if the output's failure matches the fault. After `Write` the output has failed. After any
+-- other fault it has failed exactly if it had failed before.
 abbrev pub IsOfOutput : (before after : Bool) → FileFault → Type 0
 IsOfOutput before after f =
     (f ≡ fault.Write → after ≡ true) × (f ≢ fault.Write → after ≡ before)
 
 -- ---- runs
 
--- Holds if the file is a well-typed module, but there are no numbers to run it on.
+-- Holds if the file is a well-typed module, but there are no numbers to run it on: the input has
+-- failed or isn't a valid list.
 abbrev pub HasNoInput : List ℕ → Option (List ℕ) → (input_failed : Bool) → Type 0
 HasNoInput file given input_failed = IsWellTypedModule file × HasNoNumbers given input_failed
 
--- Holds if the input failed in this call only in case the fault is `Input`.
+-- Holds if the input has failed exactly if it had failed before, or the fault is `Input`.
 abbrev pub IsOfInput : (before after : Bool) → FileFault → Type 0
 IsOfInput before after f = f ≢ fault.Input → after ≡ before
 

@@ -16,8 +16,8 @@ use Rattle.ob0_commands.specs.Endings.{EndsWell}
 use Rattle.ob0_commands.specs.Numbers.{IsInputOf}
 use Rattle.ob0_commands.specs.Printed.{PrintsFaults, end_line, output_text}
 
--- Holds if the text is a well-typed module and this is its run. `c` bounds the open calls and `t`
--- the iterations of a loop.
+-- Holds if the text is a well-typed module and `r` is its run on this input. `c` bounds the open
+-- calls, and `t` the iterations of each loop.
 pub record TextRunsAs (text : List ℕ) (input : List ℤ) (c t : ℕ) (r : Run) : Type 0 where
   pub tree : Tree Name module_text
   pub text_of : IsTextOf tree text
@@ -31,8 +31,8 @@ pub record IsLoweredTo (text : List ℕ) (program : Program) : Type 0 where
   pub well_typed : WellTyped tree
   pub runs : lowered.RunsAs tree program
 
--- Holds if known bytes grow by the output of this run of the file's module. If the reader's bytes
--- are known, the run's input are the numbers that they spell.
+-- Holds if the known bytes of the output grow by the output of the run `r` of the file's module. If
+-- the reader's bytes are known, the run's input consists of the numbers that they spell.
 pub record PrintsRun (file : List ℕ) (given : Option (List ℕ)) (c t : ℕ)
     (before after : Option (List ℕ)) (r : Run) : Type 0 where
   pub input : List ℤ

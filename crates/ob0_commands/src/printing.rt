@@ -20,12 +20,12 @@ ghost use Rattle.ob0_commands.specs.Said.{Says};
 use crate::faults::FileFault;
 use std::io::{self, Write};
 
-/// The most bytes that one read asks for, or that are collected before they are written.
+/// The most bytes that one read asks for, and the most that are collected before they are written.
 pub(crate) const PIECE_SIZE: usize = 8192;
 
 /// A writer that remembers whether it has been flushed since the last write, and whether it has failed.
 pub trait Output: Write {
-    // Returns true if a flush has succeeded since the last write of some bytes.
+    // Returns true if a flush has succeeded since the last write of at least one byte.
     ghost is_flushed: { Self → Bool };
 
     // Returns true if a call of `write_tracked` or `flush_tracked` has failed.

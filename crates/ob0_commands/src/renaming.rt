@@ -41,6 +41,7 @@ pub fn rename_text<O: Output, E: Output>(
     }
 }
 
+/// Does what `rename_text` does, but returns faults instead of printing them.
 fn rename_file<O: Output, E: Output>(
     alloc: Global,
     file: &[u8],
@@ -65,6 +66,7 @@ fn rename_file<O: Output, E: Output>(
     rename_in_text(alloc, text, position, new, out, err)
 }
 
+/// Does what `rename_file` does, for a file whose bytes are UTF-8 and not too long.
 fn rename_in_text<O: Output, E: Output>(
     alloc: Global,
     text: &str,

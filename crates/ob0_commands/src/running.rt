@@ -78,6 +78,7 @@ pub fn run_text<R: Input, O: Output, E: Output>(
     }
 }
 
+/// Does what `run_text` does, but returns faults instead of printing them.
 fn run_file<R: Input, O: Output, E: Output>(
     alloc: Global,
     file: &[u8],
@@ -142,7 +143,8 @@ fn lower_text<O: Output>(
     }
 }
 
-/// Runs the program that a text is lowered to. The text is an argument only for the contract.
+/// Runs the program that a text is lowered to, with this input and these bounds on calls and turns. The text is an
+/// argument only for the contract.
 fn execute_module(
     alloc: Global,
     text: &str,
@@ -246,7 +248,7 @@ fn append_item<O: Output>(
     Ok(())
 }
 
-/// Appends an item to a text: a space and the digits of a number, or a line feed.
+/// Appends an item to a text: a space and the digits of a number, or a line feed. The text must have room for 12 bytes.
 fn push_item(text: &mut ArrayString<PIECE_SIZE>, digits: &mut Buffer, item: Item)
     requires { array_string_len text.old + 12 ≤ 8192 }
     ensures { text.new.bytes ≡ text.old.bytes ++ written_text (item_of item) }

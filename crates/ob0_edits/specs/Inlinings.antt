@@ -1,4 +1,4 @@
--- Defines the edits that inline a constant, at one use or everywhere, and the text that they leave.
+-- The edits that inline a constant, at one use or everywhere, and the text that they leave.
 -- Rule: docs/PROTOCOL.md, Requests on documents 7, 9, 10.
 use Rattle.std.specs.Prelude.{◌≡◌, ℕ, List, Option, Some, None, Result, Ok, Err, Vec}
 use Rattle.std.specs.declared.alloc.Global.{Global}
@@ -19,7 +19,8 @@ use Rattle.ob0_edits.specs.declared.inlining.Inlining.{Inlining}
 use Rattle.ob0_edits.specs.declared.inlining.Inlining.TheVariants.{Here, Everywhere}
 use Rattle.ob0_edits.specs.declared.inlining.Inlinings as found_inlinings
 
--- holds if this is an inliner's right answer at a byte offset of a module
+-- holds if this is the answer to inlining at a byte offset of a module, according to the
+-- definitions of `ob0_inline`
 abbrev pub AnswersInlining : Inlining
     → Unit
     → List ℕ
@@ -39,8 +40,8 @@ Inlines how unit text m offset None =
     × ¬ (refusal ≡ Memory)
     × AnswersInlining how unit text m offset (Err refusal)
 
--- States that these edits inline a constant. Made all at once, they leave a text whose module has
--- the same runs.
+-- Holds if these edits inline a constant. Made all at once, they leave a text whose module has the
+-- same runs.
 pub record InlinesIn (how : Inlining) (unit : Unit) (text : List ℕ) (offset : ℕ)
     (edits : Vec Edit Global) : Type 0 where
   pub module_read : Parsed
@@ -50,7 +51,7 @@ pub record InlinesIn (how : Inlining) (unit : Unit) (text : List ℕ) (offset : 
   pub made : patched (width_of unit) text edits.items ≡ Some after
   pub runs : RunsAsBefore (utf8 text) (utf8 after)
 
--- states that this inlining is refused
+-- holds if the text is a well-typed module and this inlining is refused
 pub record IsNotInlinedIn (how : Inlining) (unit : Unit) (text : List ℕ) (offset : ℕ) : Type 0 where
   pub module_read : Parsed
   pub read : IsReadAs (utf8 text) module_read
@@ -58,18 +59,20 @@ pub record IsNotInlinedIn (how : Inlining) (unit : Unit) (text : List ℕ) (offs
 
 -- ---- the result for a text
 
--- holds if these are the edits of an inliner's answer, or None and the answer is a refusal
+-- holds for the edits of an inliner's answer; holds for None if the answer is a refusal other than
+-- a failed allocation
 abbrev pub IsOffered : Result (Vec Edit Global) EditRefusal → Option (Vec Edit Global) → Type 0
 IsOffered answer (Some edits) = answer ≡ Ok edits
 IsOffered answer None = (refusal : EditRefusal) × ¬ (refusal ≡ Memory) × (answer ≡ Err refusal)
 
--- holds if these edits inline the constant, or None and the inlining is refused
+-- holds for edits if they inline the constant at a byte offset of the text; holds for None if that
+-- is refused
 abbrev pub Offers : Inlining → Unit → List ℕ → ℕ → Option (Vec Edit Global) → Type 0
 Offers how unit text offset (Some edits) = InlinesIn how unit text offset edits
 Offers how unit text offset None = IsNotInlinedIn how unit text offset
 
--- Holds if these are the offered edits at a byte offset of a text. None means that the text isn't a
--- well-typed module.
+-- Holds if these are the offered edits at a byte offset of a text. None requires that the text
+-- isn't a well-typed module.
 abbrev pub FindsInlinings : Unit → List ℕ → ℕ → Option found_inlinings.Inlinings → Type 0
 FindsInlinings unit text offset (Some found) =
     Offers Here unit text offset found.here × Offers Everywhere unit text offset found.everywhere

@@ -1,4 +1,4 @@
--- Defines the edits that format a text, and the text that they leave.
+-- The edits that format a text, and the text that they leave.
 -- Rule: docs/PROTOCOL.md, Requests on documents 8, 10.
 use Rattle.std.specs.Prelude.{◌≡◌, ◌<◌, ℕ, List, Option, Some, None, Result, Ok, Err, Vec, map, length}
 use Rattle.std.specs.declared.alloc.Global.{Global}
@@ -33,9 +33,9 @@ layout_changes unit indent characters m =
     map (edit_of (width_of unit) characters) (changed_gaps source.text
     (all_gaps indent source.text (line_roles 0 m.tree) m.text_of.scan.scan.lexemes))
 
--- States that these edits format a text: there is one for each gap that changes, and it replaces
--- the whole gap. Made all at once, they leave the formatted text. Its module is the same, with the
--- same runs.
+-- Holds if these edits format a text. There is one for each gap that changes, and it replaces the
+-- whole gap. Made all at once, they leave the formatted text. Its module is the same, with the same
+-- runs.
 pub record LaysOut (unit : Unit) (indent : Indent) (text : List ℕ)
     (edits : List Edit) : Type 0 where
   pub before : IsWellTypedModule (utf8 text)
@@ -46,19 +46,19 @@ pub record LaysOut (unit : Unit) (indent : Indent) (text : List ℕ)
   pub same_module : IsTextOf before.tree (utf8 after)
   pub runs : RunsAsBefore (utf8 text) (utf8 after)
 
--- states that the formatted text is longer than a text may be
+-- holds if the formatted text of the module is longer than a text may be
 pub record IsTooLongLaidOut (indent : Indent) (text : List ℕ) : Type 0 where
   pub before : IsWellTypedModule (utf8 text)
   pub long : max_text < length (layout_of indent before)
 
--- holds if this is the result of formatting a module: edits, or the only possible refusal,
--- `TooLong`
+-- holds for edits if they format the module; holds for the only possible refusal, `TooLong`, if the
+-- formatted text is too long
 abbrev pub Formats : Unit → Indent → List ℕ → Result (Vec Edit Global) EditRefusal → Type 0
 Formats unit indent text (Ok edits) = LaysOut unit indent text edits.items
 Formats unit indent text (Err refusal) = (refusal ≡ TooLong) × IsTooLongLaidOut indent text
 
 -- Holds if this is the result of formatting a text: edits, or the only possible refusal, `TooLong`.
--- None means that the text isn't a well-typed module.
+-- None requires that the text isn't a well-typed module.
 abbrev pub FindsLayout : Unit
     → Indent
     → List ℕ

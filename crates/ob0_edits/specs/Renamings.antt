@@ -1,4 +1,4 @@
--- Defines the renaming in a text: the edits, or the refusal.
+-- The renaming in a text: the edits, or the refusal.
 -- Rule: docs/PROTOCOL.md, Requests on documents 2, 6.
 use Rattle.std.specs.Prelude.{◌≡◌, ℕ, List, Option, Some, None, Result, Ok, Err, Vec}
 use Rattle.std.specs.declared.alloc.Global.{Global}
@@ -16,12 +16,13 @@ use Rattle.ob0_analysis.specs.Texts.{utf8}
 use Rattle.ob0_rename.specs.Answers.{AreEdits, IsRefused}
 use Rattle.ob0_rename.specs.Renaming.{Renaming, renaming_of}
 
--- holds if this is the result for a module: edits, or the refusal
+-- holds for edits if they rename the declaration or field at the place; holds for the refusal of
+-- the renaming
 abbrev pub Settles : Renaming → Result (Vec Edit Global) EditRefusal → Type 0
 Settles r (Ok edits) = AreEdits r edits.items
 Settles r (Err refusal) = IsRefused r refusal
 
--- States that these edits write the new name. Made all at once, they leave a text of the renamed
+-- Holds if these edits write the new name. Made all at once, they leave a text of the renamed
 -- module, which has the same runs.
 pub record RenamesIn (unit : Unit) (text : List ℕ) (place : Position) (new : List ℕ)
     (edits : List Edit) : Type 0 where
@@ -32,15 +33,15 @@ pub record RenamesIn (unit : Unit) (text : List ℕ) (place : Position) (new : L
   pub made : patched (width_of unit) text edits ≡ Some after
   pub runs : RunsAsBefore (utf8 text) (utf8 after)
 
--- states that the renaming is refused for this reason
+-- holds if the text is a well-typed module and the renaming is refused for this reason
 pub record IsRefusedIn (unit : Unit) (text : List ℕ) (place : Position) (new : List ℕ)
     (refusal : EditRefusal) : Type 0 where
   pub names : Resolution
   pub read : IsModuleIn (utf8 text) names
   pub refused : IsRefused (renaming_of unit text names place new) refusal
 
--- Holds if this is the result for a text: edits, or the refusal. None means that the text isn't a
--- well-typed module.
+-- Holds if this is the result of renaming in a text: edits, or the refusal. None requires that the
+-- text isn't a well-typed module.
 abbrev pub FindsNewName : Unit
     → List ℕ
     → Position

@@ -25,14 +25,14 @@ pub enum Inlining {
     Everywhere,
 }
 
-/// The edits of each kind of inlining; None if that kind is refused.
+/// The edits of each kind of inlining, or None for a kind that is refused.
 #[derive(Drop)]
 pub struct Inlinings {
     pub here: Option<Vec<Edit>>,
     pub everywhere: Option<Vec<Edit>>,
 }
 
-/// The question which inlinings are possible at a place of a store's text.
+/// The question for the possible inlinings at a place of a store's text.
 #[derive(Drop)]
 struct InlinedAt<'a, T: TextStore> {
     store: &'a T,
@@ -59,8 +59,8 @@ impl<'a, T: TextStore> Question for InlinedAt<'a, T> {
     }
 }
 
-/// Returns the edits of an inliner's answer, or None if it is a refusal. A failed allocation is
-/// returned as an error.
+/// Returns the edits that an inliner has answered, or None if it has refused. A failed allocation is returned as an
+/// error.
 fn offered_edits(answer: Result<Vec<Edit>, EditRefusal>) -> Result<Option<Vec<Edit>>, AllocError>
     ensures { IfOk result (λ edits. IsOffered answer edits) }
 {
@@ -71,9 +71,9 @@ fn offered_edits(answer: Result<Vec<Edit>, EditRefusal>) -> Result<Option<Vec<Ed
     }
 }
 
-/// Returns the edits of each kind of inlining that isn't refused, at a place of a store's text.
-/// None if the text isn't a well-typed module. If an allocation fails, that is an error and never
-/// counts as a refusal.
+/// Returns the edits of each kind of inlining at a place of a store's text, or None for a kind that is refused. The
+/// whole result is None if the text isn't a well-typed module. A failed allocation is an error, and never counts as a
+/// refusal.
 pub fn inline_in<T: TextStore>(
     alloc: Global,
     store: &T,

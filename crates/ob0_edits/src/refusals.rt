@@ -5,8 +5,7 @@ ghost use Rattle.ob0_text.specs.declared.refusals.EditRefusal.TheVariants.{Memor
 use ob0_text::{Edit, EditRefusal};
 use std::alloc::AllocError;
 
-/// Returns the same edits or refusal. A failed allocation is returned as an error instead of a
-/// refusal.
+/// Returns the given edits or refusal unchanged. A failed allocation is returned as an error instead of a refusal.
 pub(crate) fn without_memory(
     outcome: Result<Vec<Edit>, EditRefusal>,
 ) -> Result<Result<Vec<Edit>, EditRefusal>, AllocError>

@@ -17,7 +17,7 @@ use ob0_rename::rename;
 use ob0_text::{Edit, EditRefusal, Position, TextStore};
 use std::alloc::{AllocError, Global};
 
-/// The question which edits rename the declaration or field at a place of a store's text.
+/// The question for the edits that rename the declaration or field at a place of a store's text.
 #[derive(Drop)]
 struct NewName<'a, T: TextStore> {
     store: &'a T,
@@ -42,9 +42,8 @@ impl<'a, T: TextStore> Question for NewName<'a, T> {
     }
 }
 
-/// Returns the edits that rename the declaration or field at a place of a store's text to `new`, or
-/// the refusal. None if the text isn't a well-typed module. If an allocation fails, that is an
-/// error and never counts as a refusal.
+/// Returns the edits that rename the declaration or field at a place of a store's text to `new`, or the refusal.
+/// Returns None if the text isn't a well-typed module. A failed allocation is an error, and never counts as a refusal.
 pub fn rename_in<T: TextStore>(
     alloc: Global,
     store: &T,

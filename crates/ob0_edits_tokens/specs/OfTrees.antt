@@ -1,4 +1,4 @@
--- Defines the relation between the words of a text and a tree over their indexes.
+-- The relation between the words of a text and a tree over their indexes.
 -- Rule: none; for contracts of edit makers.
 use Rattle.std.specs.Prelude.{◌≡◌, ℕ, suc, if◌then◌else◌, List, [], ◌∷◌, map, slice_index_or}
 use Rattle.ob0_scan.specs.Scanned.{Word, Scanned}
@@ -10,8 +10,8 @@ use Rattle.ob0_edits_tokens.specs.Changed.{words_of, changed_words, at_each, is_
 use Rattle.ob0_edits_tokens.specs.Replaced.{AreNames}
 use Rattle.ob0_edits_tokens.specs.Written.{name_word}
 
--- Returns the tokens of the words, with the words' indexes in place of names and integers. The
--- first word has the index k.
+-- Returns the tokens of the words as a tree over indexes spells them. The first word has the index
+-- `k`.
 abbrev pub numbered_tokens : ℕ → List Word → List (Terminal ℕ)
 numbered_tokens k [] = []
 numbered_tokens k (w ∷ ws) = lexeme_of k w.kind ∷ numbered_tokens (suc k) ws
@@ -24,16 +24,17 @@ word_at ws k = slice_index_or ws k (name_word [])
 abbrev pub text_of_word : List Word → ℕ → List ℕ
 text_of_word ws k = (word_at ws k).text
 
--- returns the value of the word with this index, if it is an integer
+-- returns the value of the word with this index, or 0 if it isn't an integer or doesn't exist
 abbrev pub number_at : List Word → ℕ → ℕ
 number_at ws k = value_of (word_at ws k).kind
 
--- returns the name with an index, or the new name at these places
+-- returns the new name if the index is one of the places, otherwise the text of the word with this
+-- index
 abbrev pub renamed_at : List Word → List ℕ → List ℕ → ℕ → List ℕ
 renamed_at ws places new k = if is_among k places then new else text_of_word ws k
 
--- States that a tree still spells the words after both get a new name at the same places. The tree
--- must have the words' indexes as its names.
+-- A tree still spells the words if both get a new name at the same places. The tree must have the
+-- words' indexes as its names and integers.
 abbrev pub RenamedWordsSpell : Type 0
 RenamedWordsSpell =
     (s : Scanned) (sort : Sort) (t : Tree ℕ sort) (places new : List ℕ)

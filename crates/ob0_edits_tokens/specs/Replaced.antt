@@ -1,5 +1,4 @@
--- Defines a text in which some identifiers are replaced by another text, and the edits that do
--- this.
+-- A text in which some identifiers are replaced by another text, and the edits that do this.
 -- Rule: docs/PROTOCOL.md, Requests on documents 10.
 use Rattle.std.specs.Prelude.{◌≡◌, ℕ, suc, ◌<◌, ◌≤◌, false, List, [], ◌∷◌, ◌++◌, length, map, IsTrue, Some, slice_index, slice_index_or, string_bytes}
 use Rattle.std.specs.Char.{is_ascii_alphabetic, is_ascii_alphanumeric}
@@ -25,12 +24,13 @@ token_or_empty tokens p =
     slice_index_or tokens p
     (record { kind = token.Identifier; span = record { start = 0; end = 0 } })
 
--- returns the span of the token with this index
+-- returns the span of the token with this index; if there is none, an empty span at the text's
+-- start
 abbrev pub span_at : List Token → ℕ → Span
 span_at tokens p = (token_or_empty tokens p).span
 
--- Holds if the places are indexes of identifiers among the tokens. They ascend, and each is at
--- least `least`.
+-- Holds if the places are indexes of identifiers among the tokens, in ascending order. The first
+-- one is at least `least`.
 abbrev pub AreNames : List Token → ℕ → List ℕ → Type 0
 AreNames tokens least [] = Unit {0}
 AreNames tokens least (p ∷ ps) =
@@ -44,24 +44,25 @@ abbrev pub cut_of : List Token → List ℕ → ℕ → Cut
 cut_of tokens new p =
     record { from = (span_at tokens p).start; to = (span_at tokens p).end; new = new }
 
--- returns the text with the new text at each place
+-- returns the text with `new` in place of the token at each place
 abbrev pub with_text_at : Scanned → List ℕ → List ℕ → List ℕ
 with_text_at s places new = pieced s.text 0 (map (cut_of s.tokens new) places)
 
--- holds if each cut begins at or after the end of the one before it, and removes at least one byte
+-- holds if each cut begins at or after the end of the cut before it, and removes at least one byte;
+-- the first one begins at or after `at`
 abbrev pub AreInOrder : ℕ → List Cut → Type 0
 AreInOrder at [] = Unit {0}
 AreInOrder at (c ∷ cs) = (at ≤ c.from) × (c.from < c.to) × AreInOrder c.to cs
 
--- holds if each lexeme ends before the next one, and the last one ends before this byte
+-- holds if each lexeme ends before the next one, and the last one ends before the byte `byte`
 abbrev pub AreApartBefore : List Lexeme → ℕ → Type 0
 AreApartBefore [] byte = Unit {0}
 AreApartBefore (l ∷ lexemes) byte =
     EndsBefore l (slice_index (joined lexemes ++ (byte ∷ [])) 0) × AreApartBefore lexemes byte
 
--- States that a text, which is read as these words, may replace any identifier. A lexeme that ends
--- before a letter ends before the text's first byte. The text's own lexemes end before one another,
--- and the last one ends before every byte that ends an identifier.
+-- Holds if the text `new`, which is read as the words `ws`, may replace any identifier. A lexeme
+-- that ends before a letter must end before the text's first byte. The text's own lexemes must end
+-- before one another, and the last one before every byte that ends an identifier.
 pub record ReplacesName (new : List ℕ) (ws : List Word) : Type 0 where
   pub lexemes : List Lexeme
   pub whole : joined lexemes ≡ new
@@ -77,11 +78,11 @@ pub record ReplacesName (new : List ℕ) (ws : List Word) : Type 0 where
 abbrev pub parts : Edit → Range × List ℕ
 parts edit = (edit.range, string_bytes edit.text)
 
--- returns the edit at a place: the token's range and the new text
+-- returns the edit at a place, as the token's range and the new text
 abbrev pub edit_at : counting.Unit → List ℕ → List Token → List ℕ → ℕ → Range × List ℕ
 edit_at unit text tokens new p = (range_of (width_of unit) text (span_at tokens p), new)
 
--- States that the text after the edits is scanned and has these words.
+-- Holds if the text after the edits can be scanned and has these words.
 pub record LeavesWords
     (unit : counting.Unit) (text : List ℕ) (edits : List Edit) (ws : List Word) : Type 0 where
   pub after : Scanned

@@ -1,4 +1,4 @@
--- Defines the token of a word, as a tree spells it.
+-- The token of a word, as a tree spells it.
 -- Rule: none; for contracts of edit makers.
 use Rattle.std.specs.Prelude.{List, ℕ}
 use Rattle.ob0_scan.specs.Scanned.{Word}

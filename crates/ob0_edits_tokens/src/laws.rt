@@ -11,8 +11,7 @@ pub fn names_replace_names()
     ensures { (new : List ℕ) → IsIdentifier new → ReplacesName new (name_word new ∷ []) }
 {}
 
-/// Proves that after some words are replaced by a name, the tree with that name in the same places
-/// spells the words.
+/// Proves that a tree still spells the words if both get a new name at the same places.
 pub fn renamed_words_spell()
     ensures { RenamedWordsSpell }
 {}

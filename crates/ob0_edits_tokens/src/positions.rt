@@ -64,7 +64,7 @@ fn bounds(alloc: Global, spans: &[Span]) -> Result<Vec<usize>, AllocError>
     Ok(offsets)
 }
 
-/// Returns the spans of the tokens with these indexes.
+/// Returns the spans of the tokens with the indexes `places`, in the same order.
 pub(crate) fn spans_of(
     alloc: Global,
     tokens: &[Token],

@@ -16,9 +16,9 @@ use ob0_scan::{MAX_TEXT, Span, Tokens};
 use ob0_text::{Edit, EditRefusal, Range, TextStore};
 use std::alloc::Global;
 
-/// Returns one edit for each of the places, which are indexes of identifiers among the tokens, in
-/// text order. Fails with `TooLong` if the new text is longer than a text may be, and with `Memory`
-/// if an allocation fails.
+/// Returns one edit for each of the places, which writes `new` there. The places are indexes of identifiers among the
+/// tokens, in text order. Fails with `TooLong` if the resulting text is longer than a text may be, and with `Memory` if
+/// an allocation fails.
 pub fn edits_for<T: TextStore>(
     alloc: Global,
     store: &T,
@@ -50,9 +50,9 @@ pub fn edits_for<T: TextStore>(
     Ok(edits)
 }
 
-/// Returns an edit that removes a declaration, from its first token to its last. After it come
-/// edits that replace the tokens at some later places by a text. Fails with `TooLong` if the new
-/// text is longer than a text may be, and with `Memory` if an allocation fails.
+/// Returns an edit that removes a declaration, from its first token to its last. After it come edits that replace the
+/// tokens at some later places by `new`. Fails with `TooLong` if the resulting text is longer than a text may be, and
+/// with `Memory` if an allocation fails.
 pub fn edits_without<T: TextStore>(
     alloc: Global,
     store: &T,
@@ -128,7 +128,7 @@ fn add_edits<T: TextStore>(
     Ok(())
 }
 
-/// Returns the range of a span.
+/// Returns the range of a span, in the unit of the store.
 pub fn range_of<T: TextStore>(store: &T, span: Span) -> Range
     ensures { result ≡ range_of (width_of (T.unit_of store.now)) (T.content store.now) span }
 {
@@ -138,8 +138,8 @@ pub fn range_of<T: TextStore>(store: &T, span: Span) -> Range
     }
 }
 
-/// Returns true if a text is longer than a text may be. It has `counted` bytes, and then the text
-/// after `end` with the new text at all places.
+/// Returns true if an edited text is longer than a text may be. It consists of `counted` bytes, and then of the old
+/// text after `end` with `new` at all places.
 fn is_too_long(tokens: &Tokens, counted: usize, end: usize, places: &[usize], new: &str) -> bool
     requires names { AreNames tokens.now.tokens 0 places.now }
     requires order { AreInOrder end (map (cut_of tokens.now.tokens new.now) places.now) }

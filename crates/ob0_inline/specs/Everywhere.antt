@@ -1,5 +1,4 @@
--- Defines the constant at a place, the module after the constant is inlined everywhere, and the
--- refusals.
+-- The constant at a place, the module after the constant is inlined everywhere, and the refusals.
 -- Rule: docs/PROTOCOL.md, Requests on documents 9, Refusals of edits.
 use Rattle.std.specs.Prelude.{◌≡◌, ◌≢◌, ◌⊎◌, ℕ, Bool, not, ◌&&◌, if◌then◌else◌, List, [], ◌∷◌, Option, Some, None, Result, Ok, Err, Vec, drop, length, map}
 use Rattle.std.specs.List.{All, filter, list_any, position_from, range_with_len, zip}
@@ -33,8 +32,8 @@ use Rattle.ob0_inline.specs.Inlined.{LeavesModule, first_refusal}
 use Rattle.ob0_inline.specs.Uses.{is_predeclared_truth}
 use Rattle.ob0_inline.specs.Values.{value_factor, value_text}
 
--- States that a constant of a CONST section has this ordinal, this value and this declaring token.
--- `last` is the first `;` after that token.
+-- Holds if `c` is a constant of a CONST section, with its ordinal, its value and its declaring
+-- token. `last` is the first `;` after that token.
 pub record IsConstant (m : Parsed) (c : NamedConstant) : Type 0 where
   pub has_value : value_of_constant (named_tree_of m) c.ordinal ≡ Some (scalar_value c.value)
   pub begins : token_declaring (declaring_only (identifiers role.Declaring (tree_of m))) c.ordinal
@@ -42,30 +41,31 @@ pub record IsConstant (m : Parsed) (c : NamedConstant) : Type 0 where
   pub ends : position_from (λ t. is_semicolon t.kind) c.first (drop c.first m.source.tokens)
       ≡ Some c.last
 
--- states that the place is on a name of this constant: its declaring one, or a use
+-- holds if the byte offset is on a name of this constant: its declaring name, or a use
 pub record IsConstantAt (m : Parsed) (offset : ℕ) (c : NamedConstant) : Type 0 where
   pub token : ℕ
   pub named : name_on m offset ≡ Some (record { token = token; ordinal = c.ordinal })
   pub is_constant : IsConstant m c
 
--- holds if the place isn't on a name of a constant
+-- holds if the byte offset isn't on a name of a constant
 abbrev pub NoConstantAt : Parsed → ℕ → Type 0
 NoConstantAt m offset =
     (n : named.Named)
     → name_on m offset ≡ Some n
     → value_of_constant (named_tree_of m) n.ordinal ≡ None
 
--- returns the tokens of the occurrences that are bound to d, in text order
+-- returns the tokens of the occurrences that are bound to `d`, in text order
 abbrev pub uses_of : Parsed → ℕ → List ℕ
 uses_of m d =
     map (λ u. u.0) (filter (λ u. same_label u.1 (declared d))
     (zip (occurrences (tree_of m)) (bindings (named_tree_of m))))
 
--- holds if each name of d is a factor by itself
+-- holds if each use of the declaration `d` is a whole factor
 abbrev pub IsAlone : Parsed → ℕ → Type 0
 IsAlone m d = All (λ l. l ≢ declared d) (names_elsewhere (numbered (named_tree_of m)))
 
--- returns the module with the value in place of all uses, and without the declaration
+-- returns the module after the constant is inlined everywhere: with its value in place of all uses,
+-- and without its declaration
 abbrev pub inlined_all : Parsed → NamedConstant → Tree Name module_text
 inlined_all m c = inlined_everywhere (named_tree_of m) c.ordinal (value_factor c.value)
 
@@ -73,27 +73,28 @@ inlined_all m c = inlined_everywhere (named_tree_of m) c.ordinal (value_factor c
 abbrev pub text_without : Parsed → NamedConstant → List ℕ
 text_without m c = without_text m.source c.first c.last (uses_of m c.ordinal) (value_text c.value)
 
--- true if an occurrence is a use of the constant, and TRUE or FALSE in its place wouldn't be the
--- predeclared name
+-- returns true if the occurrence `k` is a use of the constant, and TRUE or FALSE in its place
+-- wouldn't be the predeclared name
 abbrev pub is_hidden : Tree Name module_text → NamedConstant → ℕ → Bool
 is_hidden m c k = same_ordinal (binds m k) c.ordinal && not (is_predeclared_truth m k c.value)
 
--- true if at some use the word that would be written isn't the predeclared name
+-- returns true if at some use of the constant TRUE or FALSE wouldn't be the predeclared name
 abbrev pub any_hidden : Tree Name module_text → NamedConstant → Bool
 any_hidden m c = list_any (is_hidden m c) (range_with_len 0 (length (bindings m)))
 
--- true if a comment is between the declaration's name and its `;`
+-- returns true if a comment is between the declaration's name and its `;`
 abbrev pub has_comment : Parsed → NamedConstant → Bool
 has_comment m c = list_any (is_inside (span_over m.source.tokens c.first c.last)) m.source.comments
 
--- returns the first of the refusals that apply to a constant, or None if none applies
+-- returns the first of the refusals that apply to inlining a constant everywhere, or None if none
+-- applies
 abbrev pub refusal_everywhere : Parsed → NamedConstant → Option EditRefusal
 refusal_everywhere m c =
     first_refusal (text_without m c) (inlined_all m c)
     (if any_hidden (named_tree_of m) c then Some Shadowed
     else if has_comment m c then Some CommentInside else None)
 
--- States that these edits remove the declaration, from its name to its `;`, and write the value in
+-- Holds if these edits remove the declaration, from its name to its `;`, and write the value in
 -- place of each use. They change no other character. They leave the text of the inlined module,
 -- which is well-typed and has the same runs.
 pub record InlinesEverywhere (unit : counting.Unit) (text : List ℕ) (m : Parsed)
@@ -105,8 +106,8 @@ pub record InlinesEverywhere (unit : counting.Unit) (text : List ℕ) (m : Parse
   pub well_typed : WellTyped (inlined_all m c)
   pub same_runs : SameRuns (inlined_all m c) (named_tree_of m)
 
--- Holds if this is the answer for a constant: the edits if nothing refuses them, otherwise the
--- first refusal. If an allocation fails, the answer may be `Memory` instead of either.
+-- Holds for edits if no refusal applies and they inline the constant everywhere. Holds for the
+-- first refusal that applies, and for `Memory`.
 abbrev pub AnswersConstant : counting.Unit
     → List ℕ
     → Parsed
@@ -118,8 +119,8 @@ AnswersConstant unit text m c (Ok edits) =
 AnswersConstant unit text m c (Err refusal) =
     (refusal_everywhere m c ≡ Some refusal) ⊎ (refusal ≡ Memory)
 
--- Holds if this is the answer at a place: the answer for the constant there, or `NoName` if there
--- is none.
+-- Holds for the answer about the constant whose name is at the byte offset. If there is no such
+-- constant, holds for `NoName`.
 abbrev pub AnswersEverywhere : counting.Unit
     → List ℕ
     → Parsed

@@ -1,4 +1,4 @@
--- Defines the use of a constant at a place, the module after the constant is inlined there, and the
+-- The use of a constant at a place, the module after the constant is inlined there, and the
 -- refusals.
 -- Rule: docs/PROTOCOL.md, Requests on documents 9, Refusals of edits.
 use Rattle.std.specs.Prelude.{◌≡◌, ◌⊎◌, ℕ, Bool, true, false, if◌then◌else◌, List, [], ◌∷◌, Option, Some, None, Result, Ok, Err, Vec, map, slice_get}
@@ -27,14 +27,15 @@ use Rattle.ob0_inline.specs.declared.uses.Use.{Use}
 use Rattle.ob0_inline.specs.Inlined.{LeavesModule, first_refusal}
 use Rattle.ob0_inline.specs.Values.{value_factor, value_text}
 
--- States that the place is on this use: an occurrence with this token, which is bound to a constant
--- of a CONST section.
+-- Holds if the byte offset is on the use `u`: an occurrence with this token, which is bound to a
+-- constant of a CONST section.
 pub record IsUseAt (m : Parsed) (offset : ℕ) (u : Use) : Type 0 where
   pub named : name_on m offset ≡ Some (record { token = u.token; ordinal = u.constant })
   pub occurs : slice_get (occurrences (tree_of m)) u.occurrence ≡ Some u.token
   pub has_value : value_of_constant (named_tree_of m) u.constant ≡ Some (scalar_value u.value)
 
--- States that an occurrence has this token and is bound to this constant.
+-- Holds if the occurrence with this number has this token, and is bound to this constant of a CONST
+-- section with this value.
 pub record IsUse (m : Parsed) (u : Use) : Type 0 where
   pub occurs : slice_get (occurrences (tree_of m)) u.occurrence ≡ Some u.token
   pub bound : binds (named_tree_of m) u.occurrence ≡ Some u.constant
@@ -45,24 +46,24 @@ abbrev pub truth_ordinal : Bool → ℕ
 truth_ordinal true = 2
 truth_ordinal false = 3
 
--- True if TRUE or FALSE in place of an occurrence would be the predeclared name. It is always true
--- for a number.
+-- Returns true if TRUE or FALSE in place of an occurrence would be the predeclared name. For a
+-- number the result is true.
 abbrev pub is_predeclared_truth : Tree Name module_text → ℕ → Scalar → Bool
 is_predeclared_truth m occurrence (scalar.Number n) = true
 is_predeclared_truth m occurrence (scalar.Truth b) =
     same_ordinal (sees m occurrence (truth_text b)) (truth_ordinal b)
 
--- returns the module with the value in place of the use
+-- returns the module after the constant is inlined at one use: with its value in place of that use
 abbrev pub inlined_here : Parsed → Use → Tree Name module_text
 inlined_here m u = inlined (named_tree_of m) (only u.occurrence) (value_factor u.value)
 
--- returns the first of the refusals that apply to a use, or None if none applies
+-- returns the first of the refusals that apply to inlining at a use, or None if none applies
 abbrev pub refusal_here : Parsed → Use → Option EditRefusal
 refusal_here m u =
     first_refusal (with_text_at m.source (u.token ∷ []) (value_text u.value)) (inlined_here m u)
     (if is_predeclared_truth (named_tree_of m) u.occurrence u.value then None else Some Shadowed)
 
--- States that these edits write the value in place of the use and change no other character. They
+-- Holds if these edits write the value in place of the use and change no other character. They
 -- leave the text of the inlined module, which is well-typed and has the same runs.
 pub record InlinesHere (unit : counting.Unit) (text : List ℕ) (m : Parsed) (u : Use)
     (edits : List Edit) : Type 0 where
@@ -71,8 +72,8 @@ pub record InlinesHere (unit : counting.Unit) (text : List ℕ) (m : Parsed) (u 
   pub well_typed : WellTyped (inlined_here m u)
   pub same_runs : SameRuns (inlined_here m u) (named_tree_of m)
 
--- Holds if this is the answer for a use: the edits if nothing refuses them, otherwise the first
--- refusal. If an allocation fails, the answer may be `Memory` instead of either.
+-- Holds for edits if no refusal applies and they inline the constant at the use. Holds for the
+-- first refusal that applies, and for `Memory`.
 abbrev pub AnswersUse : counting.Unit
     → List ℕ
     → Parsed
@@ -83,8 +84,7 @@ AnswersUse unit text m u (Ok edits) =
     (refusal_here m u ≡ None) × InlinesHere unit text m u edits.items
 AnswersUse unit text m u (Err refusal) = (refusal_here m u ≡ Some refusal) ⊎ (refusal ≡ Memory)
 
--- holds if this is the answer at a place: the answer for the use there, or `NoName` if there is
--- none
+-- Holds for the answer about the use at the byte offset. If there is no use, holds for `NoName`.
 abbrev pub AnswersHere : counting.Unit
     → List ℕ
     → Parsed

@@ -24,8 +24,7 @@ pub struct NamedConstant {
     pub last: usize,
 }
 
-/// Returns the constant whose name is at a place, at its declaration or at a use. None if there is
-/// none.
+/// Returns the constant whose name is at a byte offset, at its declaration or at a use. Returns None if there is none.
 pub(crate) fn constant_at(module: &WellTyped, offset: usize) -> Option<NamedConstant>
     ensures { MatchOption result (NoConstantAt «module».now.module_read offset)
         (λ c. IsConstantAt «module».now.module_read offset c) }
@@ -40,7 +39,8 @@ pub(crate) fn constant_at(module: &WellTyped, offset: usize) -> Option<NamedCons
     }
 }
 
-/// Returns the constant with this ordinal and value, with the tokens of its declaration.
+/// Returns the constant with this ordinal and value, with the tokens of its declaration. Returns None only if the
+/// declaration isn't found, which the contract excludes.
 fn named_constant(names: &Resolved, ordinal: usize, value: Scalar) -> Option<NamedConstant>
     requires has_value { value_of_constant (named_tree_of names.now.module_read) ordinal
         ≡ Some (scalar_value value) }
@@ -62,7 +62,7 @@ fn named_constant(names: &Resolved, ordinal: usize, value: Scalar) -> Option<Nam
     }
 }
 
-/// Returns the first `;` at or after a token. None if there is none.
+/// Returns the index of the first `;` at or after a token. Returns None if there is none.
 fn end_of_declaration(tokens: &[Token], first: usize) -> Option<usize>
     ensures { result ≡ position_from (λ t. is_semicolon t.kind) first (drop first tokens.now) }
 {
@@ -74,6 +74,7 @@ fn end_of_declaration(tokens: &[Token], first: usize) -> Option<usize>
     None
 }
 
+/// Returns true for the symbol `;`.
 fn is_semicolon(kind: TokenKind) -> bool
     ensures { result ≡ is_semicolon kind }
 {

@@ -1,4 +1,4 @@
-//! Tests if TRUE and FALSE are the predeclared names at a place.
+//! Tests whether TRUE and FALSE are the predeclared names at a place.
 
 ghost use Rattle.std.specs.Prelude.{◌≡◌, IfOk, ◌==◌, ◌&&◌, not, length, option_and_then, slice_get};
 ghost use Rattle.std.specs.List.{list_any, range_with_len};
@@ -15,8 +15,8 @@ use ob0_scope::ordinals_seen;
 use ob0_scope_table::{FALSE, Resolved, TRUE, same_ordinal};
 use std::alloc::{AllocError, Global};
 
-/// Returns true if the name that would be written for a value, in place of an occurrence, is the
-/// predeclared one. No name is written for a number, so the result is true.
+/// Returns true if TRUE or FALSE, written for a truth value in place of an occurrence, is the predeclared name there.
+/// For a number the result is true.
 pub(crate) fn is_predeclared_truth(
     alloc: Global,
     names: &Resolved,
@@ -33,8 +33,7 @@ pub(crate) fn is_predeclared_truth(
     }
 }
 
-/// Returns true if a name, in place of an occurrence, would be bound to the declaration with this
-/// ordinal.
+/// Returns true if a name, written in place of an occurrence, would be bound to the declaration with this ordinal.
 fn is_seen(
     alloc: Global,
     names: &Resolved,
@@ -49,6 +48,7 @@ fn is_seen(
     Ok(is_bound(&bound, occurrence, ordinal))
 }
 
+/// Returns true if the entry of an occurrence in the list `bound` is this ordinal.
 fn is_bound(bound: &[Option<usize>], occurrence: usize, ordinal: usize) -> bool
     ensures { result
         ≡ same_ordinal (option_and_then (λ found. found) (slice_get bound.now occurrence)) ordinal }
@@ -59,8 +59,8 @@ fn is_bound(bound: &[Option<usize>], occurrence: usize, ordinal: usize) -> bool
     }
 }
 
-/// Returns true if the name that would be written for a constant isn't the predeclared one at some
-/// use. No name is written for a number, so the result is false.
+/// Returns true if TRUE or FALSE, written for the constant in place of some use, isn't the predeclared name there. For
+/// a number the result is false.
 pub(crate) fn any_hidden(
     alloc: Global,
     names: &Resolved,
@@ -77,8 +77,8 @@ pub(crate) fn any_hidden(
     }
 }
 
-/// Returns true if a name, in place of some use of a constant, wouldn't be bound to the declaration
-/// with this ordinal.
+/// Returns true if a name, written in place of some use of a constant, wouldn't be bound to the declaration with this
+/// ordinal.
 fn is_hidden(
     alloc: Global,
     names: &Resolved,
@@ -98,6 +98,7 @@ fn is_hidden(
     Ok(any_elsewhere(names, &bound, constant, ordinal))
 }
 
+/// Returns true if some occurrence is a use of the constant, and its entry in the list `bound` isn't this ordinal.
 fn any_elsewhere(names: &Resolved, bound: &[Option<usize>], constant: usize, ordinal: usize) -> bool
     ensures { result
         ≡ list_any (λ k. same_ordinal (binds (named_tree_of names.now.module_read) k) constant
@@ -112,6 +113,7 @@ fn any_elsewhere(names: &Resolved, bound: &[Option<usize>], constant: usize, ord
     false
 }
 
+/// Returns true if this occurrence is a use of the constant, and its entry in the list `bound` isn't this ordinal.
 fn is_elsewhere(
     names: &Resolved,
     bound: &[Option<usize>],

@@ -19,7 +19,7 @@ pub struct Use {
     pub value: Scalar,
 }
 
-/// Returns the use at a place. None if there is none.
+/// Returns the use of a constant at a byte offset. Returns None if there is none.
 pub(crate) fn use_at(module: &WellTyped, offset: usize) -> Option<Use>
     ensures at { MatchOption result ((u : Use) → IsUseAt «module».now.module_read offset u → ⊥)
         (λ u. IsUseAt «module».now.module_read offset u) }
@@ -43,8 +43,8 @@ pub(crate) fn use_at(module: &WellTyped, offset: usize) -> Option<Use>
     }
 }
 
-/// Returns the number of the occurrence at a token, found by binary search since tokens of
-/// occurrences ascend. None if there is none.
+/// Returns the number of the occurrence at a token, or None if there is none. It is found by binary search, because the
+/// tokens of occurrences ascend.
 fn occurrence_at(names: &Resolved, token: usize) -> Option<usize>
     ensures { result ≡ position_from (λ other. other == token) 0 names.now.uses }
 {

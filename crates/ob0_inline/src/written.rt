@@ -27,6 +27,8 @@ pub(crate) fn value_text(alloc: Global, value: Scalar) -> Result<String, AllocEr
     }
 }
 
+/// Returns the text of a number, in parentheses if it is negative. The least number is written as a difference, because
+/// 2147483648 is too large for an integer.
 fn number_text(alloc: Global, number: i32) -> Result<String, AllocError>
     ensures { IfOk result (λ text. string_bytes text ≡ number_text number) }
 {
@@ -39,7 +41,7 @@ fn number_text(alloc: Global, number: i32) -> Result<String, AllocError>
     format!(in alloc; "{number}")
 }
 
-/// Does nothing. Its contract states that the text of a 32-bit number may replace any identifier's.
+/// Does nothing. Its contract states that the text of a 32-bit number may replace any identifier.
 fn replaces_name(number: i32)
     ensures { ReplacesName (number_text number) (number_words number) }
 {}
@@ -53,6 +55,7 @@ pub(crate) fn is_scalar(value: Scalar)
     }
 }
 
+/// Does nothing. Its contract states that the number fits in 32 bits.
 fn fits(number: i32)
     ensures { IsTrue (fits number) }
 {

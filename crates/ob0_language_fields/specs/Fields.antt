@@ -24,14 +24,16 @@ selected_record (Some boolean_shape) = None
 selected_record (Some (array_shape k n s)) = None
 selected_record (Some (record_shape k fs)) = Some k
 
--- returns the type of a designator after one more selector
+-- returns the type of a designator after one more selector, given the type `s` before it; None if
+-- it has no type
 abbrev pub type_after : {i : Item} → Option Shape → Tree Name (item i) → Option Shape
 type_after s (field x) = option_and_then (λ t. field_type t x) s
 type_after s (index e) = option_and_then (λ t. element_type t integer_shape) s
 type_after s _ = s
 
--- Returns a part of a statement with its fields under other names. The record of a selected field is the type before
--- its selector, and `s` is the type before the first selector.
+-- Returns a part of a statement with its fields under other names. A selected field belongs to the
+-- record type before its selector. If the part is a list of selectors, `s` is the type before the
+-- first one.
 abbrev pub refield : {s : Sort} → FieldNames → Typed Name → Option Shape → Tree Name s → Tree Name s
 refield l meaning s (more t ts) =
     more (refield l meaning s t) (refield l meaning (type_after s t) ts)
@@ -78,7 +80,8 @@ refield l meaning s t = t
 -- RECORD of the part, and `r` the ordinal of the group's record. The length of an array is a constant expression and
 -- has no selectors.
 abbrev mutual
-  -- returns a written type with its fields under other names
+  -- returns a written type with its fields under other names; `k` is the ordinal of its first ARRAY
+  -- or RECORD
   pub refield_type : FieldNames → ℕ → Tree Name written_type → Tree Name written_type
   refield_type l k (named_type x) = named_type x
   refield_type l k (array_type e t) = array_type e (refield_type l (suc k) t)
@@ -86,13 +89,15 @@ abbrev mutual
       record_type (refield_group l k (suc k) g)
       (refield_groups l k (suc k + group_constructors g) rest)
 
-  -- returns a group of fields of the record `r`, with these and the fields in their type under other names
+  -- returns a group of fields of the record `r`, with these fields and those in their type under
+  -- other names; `k` is the ordinal of the first ARRAY or RECORD in that type
   pub refield_group : FieldNames → ℕ → ℕ → Tree Name fields → Tree Name fields
   refield_group l r k no_fields = no_fields
   refield_group l r k (some_fields ns t) =
       some_fields (with_names (λ x. x) (l (Some r)) ns) (refield_type l k t)
 
-  -- returns further groups of fields of the record `r`, with all fields under other names
+  -- returns further groups of fields of the record `r`, with all fields under other names; `k` is
+  -- the ordinal of their first ARRAY or RECORD
   pub refield_groups : FieldNames
       → ℕ
       → ℕ
@@ -103,7 +108,8 @@ abbrev mutual
       more (then_fields (refield_group l r k g))
       (refield_groups l r (k + group_constructors g) rest)
 
--- returns declarations of types with their fields under other names
+-- returns declarations of types with their fields under other names; `k` is the ordinal of their
+-- first ARRAY or RECORD
 abbrev pub refield_types : FieldNames
     → ℕ
     → Tree Name (items type_name)
@@ -112,7 +118,8 @@ refield_types l k end = end
 refield_types l k (more (declares_type x u) ds) =
     more (declares_type x (refield_type l k u)) (refield_types l (k + constructors u) ds)
 
--- returns a TYPE section with its fields under other names
+-- returns a TYPE section with its fields under other names; `k` is the ordinal of its first ARRAY
+-- or RECORD
 abbrev pub refield_type_section : FieldNames
     → ℕ
     → Tree Name (maybe type_names)
@@ -120,7 +127,8 @@ abbrev pub refield_type_section : FieldNames
 refield_type_section l k none = none
 refield_type_section l k (one (declares_types ts)) = one (declares_types (refield_types l k ts))
 
--- returns declarations of variables with their fields under other names
+-- returns declarations of variables with their fields under other names; `k` is the ordinal of
+-- their first ARRAY or RECORD
 abbrev pub refield_variables : FieldNames
     → ℕ
     → Tree Name (items variable)
@@ -129,7 +137,8 @@ refield_variables l k end = end
 refield_variables l k (more (declares_variable ns u) gs) =
     more (declares_variable ns (refield_type l k u)) (refield_variables l (k + constructors u) gs)
 
--- returns a VAR section with its fields under other names
+-- returns a VAR section with its fields under other names; `k` is the ordinal of its first ARRAY or
+-- RECORD
 abbrev pub refield_variable_section : FieldNames
     → ℕ
     → Tree Name (maybe variables)
@@ -138,12 +147,14 @@ refield_variable_section l k none = none
 refield_variable_section l k (one (declares_variables vs)) =
     one (declares_variables (refield_variables l k vs))
 
--- returns a section of parameters with its fields under other names
+-- returns a section of parameters with its fields under other names; `k` is the ordinal of its
+-- first ARRAY or RECORD
 abbrev pub refield_section : FieldNames → ℕ → Tree Name section → Tree Name section
 refield_section l k (value_section ns u) = value_section ns (refield_type l k u)
 refield_section l k (variable_section ns u) = variable_section ns (refield_type l k u)
 
--- returns further sections of parameters with their fields under other names
+-- returns further sections of parameters with their fields under other names; `k` is the ordinal of
+-- their first ARRAY or RECORD
 abbrev pub refield_sections : FieldNames
     → ℕ
     → Tree Name (items further_section)
@@ -153,7 +164,8 @@ refield_sections l k (more (then_section f) fs) =
     more (then_section (refield_section l k f))
     (refield_sections l (k + constructors (section_type f)) fs)
 
--- returns formal parameters with their fields under other names
+-- returns formal parameters with their fields under other names; `k` is the ordinal of their first
+-- ARRAY or RECORD
 abbrev pub refield_formals : FieldNames → ℕ → Tree Name (maybe formals) → Tree Name (maybe formals)
 refield_formals l k none = none
 refield_formals l k (one no_formals) = one no_formals
@@ -161,27 +173,31 @@ refield_formals l k (one (some_formals f fs)) =
     one (some_formals (refield_section l k f)
     (refield_sections l (k + constructors (section_type f)) fs))
 
--- returns the environment after a block's constants, types and variables, or `env` if one of these has an error
+-- Returns the environment after a block's constants, types and variables, or `env` unchanged if one
+-- of these has an error. `k` is the ordinal of the block's first ARRAY or RECORD.
 abbrev pub types_after_variables : TypeEnvironment Name → ℕ → Tree Name block → TypeEnvironment Name
 types_after_variables env k b =
     unwrap_or (option_and_then (declare_typed as_names (after_types k b) (block_variables b))
     (declare_first as_names env k b)) env
 
--- returns the parameters of a procedure; empty if one has an error
+-- returns the parameters of a procedure, or an empty list if one has an error; `k` is the ordinal
+-- of its first ARRAY or RECORD
 abbrev pub parameters_of : TypeEnvironment Name
     → ℕ
     → Tree Name (item procedure)
     → List (TypedParameter Name)
 parameters_of env k p = unwrap_or (typed_parameters as_names env k (procedure_formals p)) []
 
--- returns the environment after a procedure's heading
+-- returns the environment with the procedure added, as after its heading; `k` is the ordinal of its
+-- first ARRAY or RECORD
 abbrev pub types_after_heading : TypeEnvironment Name
     → ℕ
     → Tree Name (item procedure)
     → TypeEnvironment Name
 types_after_heading env k p = heading (procedure_name p) (parameters_of env k p) env
 
--- returns the environment after procedures
+-- returns the environment with these procedures added; `k` is the ordinal of their first ARRAY or
+-- RECORD
 abbrev pub types_after_procedures : TypeEnvironment Name
     → ℕ
     → Tree Name (items procedure)
@@ -218,7 +234,8 @@ abbrev mutual
       p)
       (refield_procedures l (types_after_heading env k p) (k + procedure_constructors p) rest)
 
-  -- returns a procedure with its fields under other names, given the environment of its block
+  -- returns a procedure with its fields under other names; `env` is the environment of its block,
+  -- which has the procedure and its parameters
   pub refield_procedure : FieldNames
       → TypeEnvironment Name
       → ℕ

@@ -11,7 +11,7 @@ use Rattle.ob0_language_types.specs.Declarations.{after_formals, after_types, af
 use Rattle.ob0_language_types.specs.Typing.{constructors, group_constructors}
 use Rattle.ob0_language_fields.specs.Fields.{FieldNames, refielded}
 
--- returns the new names of fields if the field `f` of the record `r` becomes `new`
+-- returns the names that fields have after the field `f` of the record `r` is renamed to `new`
 abbrev pub one_renamed : ℕ → Name → Name → FieldNames
 one_renamed r f new owner x = if same_ordinal owner r && same_name x f then new else x
 
@@ -46,19 +46,22 @@ abbrev mutual
   records_in_groups k (more (then_fields g) rest) =
       records_in_group k g ++ records_in_groups (k + group_constructors g) rest
 
--- returns the records in declarations of types, in text order
+-- returns the records in declarations of types, in text order; `k` is the ordinal of their first
+-- ARRAY or RECORD
 abbrev pub records_in_types : ℕ → Tree Name (items type_name) → List RecordFields
 records_in_types k end = []
 records_in_types k (more (declares_type x u) ds) =
     records_in_type k u ++ records_in_types (k + constructors u) ds
 
--- returns the records in the types of variables, in text order
+-- returns the records in the types of variables, in text order; `k` is the ordinal of their first
+-- ARRAY or RECORD
 abbrev pub records_in_variables : ℕ → Tree Name (items variable) → List RecordFields
 records_in_variables k end = []
 records_in_variables k (more (declares_variable ns u) gs) =
     records_in_type k u ++ records_in_variables (k + constructors u) gs
 
--- returns the records in the types of parameters, in text order
+-- returns the records in the types of parameters, in text order; `k` is the ordinal of their first
+-- ARRAY or RECORD
 abbrev pub records_in_sections : ℕ → Tree Name (items further_section) → List RecordFields
 records_in_sections k end = []
 records_in_sections k (more (then_section f) fs) =
@@ -90,7 +93,7 @@ abbrev mutual
 abbrev pub records : Tree Name module_text → List RecordFields
 records m = records_in_block 0 (module_block m)
 
--- returns true if a field other than `f` has the new name
+-- returns true if a name in the list other than `f` is the name `new`
 abbrev pub names_another_field : List Name → Name → Name → Bool
 names_another_field xs f new = list_any (λ x. same_name x new && not (same_name x f)) xs
 

@@ -25,21 +25,21 @@ abbrev pub groups_fields : {N : Type 0} → Tree N (items further_fields) → Li
 groups_fields end = []
 groups_fields (more (then_fields g) rest) = group_fields g ++ groups_fields rest
 
--- Returns true if each record in the text of a type declares a field once.
+-- Returns true if no record in the text of a type declares a field twice.
 abbrev mutual
-  -- returns true if each record in a written type declares a field once
+  -- returns true if no record in a written type declares a field twice
   pub fields_once : Tree Name written_type → Bool
   fields_once (named_type x) = true
   fields_once (array_type e t) = fields_once t
   fields_once (record_type g rest) =
       are_distinct (group_fields g ++ groups_fields rest) && (group_once g && groups_once rest)
 
-  -- returns true if each record in the type of a group of fields declares a field once
+  -- returns true if no record in the type of a group of fields declares a field twice
   pub group_once : Tree Name fields → Bool
   group_once no_fields = true
   group_once (some_fields ns t) = fields_once t
 
-  -- returns true if each record in the types of further groups declares a field once
+  -- returns true if no record in the types of further groups declares a field twice
   pub groups_once : Tree Name (items further_fields) → Bool
   groups_once end = true
   groups_once (more (then_fields g) rest) = group_once g && groups_once rest
@@ -56,38 +56,40 @@ block_names b =
     ++ (named_types (block_types b)
     ++ (variable_names (block_variables b) ++ procedure_names (block_procedures b)))
 
--- returns true if each record in the types of a TYPE section declares a field once
+-- returns true if no record in the types of a TYPE section declares a field twice
 abbrev pub types_once : Tree Name (items type_name) → Bool
 types_once end = true
 types_once (more (declares_type x t) ds) = fields_once t && types_once ds
 
--- returns true if each record in the types of variables declares a field once
+-- returns true if no record in the types of variables declares a field twice
 abbrev pub variables_once : Tree Name (items variable) → Bool
 variables_once end = true
 variables_once (more (declares_variable ns t) gs) = fields_once t && variables_once gs
 
--- returns true if each record in the types of parameters declares a field once
+-- returns true if no record in the types of parameters declares a field twice
 abbrev pub formals_once : Tree Name (items further_section) → Bool
 formals_once end = true
 formals_once (more (then_section s) fs) = fields_once (section_type s) && formals_once fs
 
--- Returns true if each block declares a name once, each record declares a field once, and each closing name is its
--- procedure's name. A procedure's parameters and locals are one block.
+-- Returns true if no block declares a name twice, no record declares a field twice, and each
+-- closing name is its procedure's name. A procedure's parameters and locals are one block.
 abbrev mutual
-  -- Returns true if the block, its records and its procedures declare names once. `own` are the names of the parameters
-  -- of the block's procedure, which count as the block's names.
+  -- Returns true if the block and the blocks and records inside it declare no name twice. `own` are
+  -- the parameters of the block's procedure, which count as the block's names.
   pub block_once : List Name → Tree Name block → Bool
   block_once own (has_body (declares cs ts vs ps) statements) =
       are_distinct (own ++ block_names (has_body (declares cs ts vs ps) statements))
       && (types_once (section_types ts)
       && (variables_once (section_variables vs) && procedures_once ps))
 
-  -- returns true if all procedures of a block declare names once and have the right closing names
+  -- returns true if each procedure has the right closing name and declares no name twice in a block
+  -- or record
   pub procedures_once : Tree Name (items procedure) → Bool
   procedures_once end = true
   procedures_once (more p rest) = procedure_once p && procedures_once rest
 
-  -- returns true if a procedure has the right closing name, and its parameters' types and its block declare names once
+  -- returns true if a procedure has the right closing name and declares no name twice in a block or
+  -- record
   pub procedure_once : Tree Name (item procedure) → Bool
   procedure_once (declares_procedure x fs b closing) =
       same_name x closing

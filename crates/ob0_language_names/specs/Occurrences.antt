@@ -20,7 +20,8 @@ label_ordinal (as_written x) = None
 abbrev pub binds : Tree Name module_text → ℕ → Option ℕ
 binds m occurrence = option_and_then label_ordinal (slice_get (bindings m) occurrence)
 
--- Returns the declarations of each block, with their ordinals. A procedure's parameters and locals are one block.
+-- Returns the declarations of each block, as names with their ordinals. A procedure's parameters
+-- and locals are one block.
 abbrev mutual
   -- Returns the declarations of a block, then the declarations of the blocks within it. The block's first declaration
   -- has ordinal `k`. `own` are the declarations of its procedure's parameters.
@@ -29,13 +30,13 @@ abbrev mutual
       body_scope k (has_body (declares cs ts vs ps) statements) own
       ∷ blocks_in_procedures (first_procedure k (has_body (declares cs ts vs ps) statements)) ps
 
-  -- returns the declarations of the blocks of procedures, the first of which has ordinal `k`
+  -- returns the declarations of each block in these procedures, the first of which has ordinal `k`
   pub blocks_in_procedures : {N : Type 0} → ℕ → Tree N (items procedure) → List (Scope N)
   blocks_in_procedures k end = []
   blocks_in_procedures k (more p rest) =
       blocks_in_procedure (suc k) p ++ blocks_in_procedures (after_procedure (suc k) p) rest
 
-  -- returns the declarations of the blocks of a procedure with ordinal `k - 1`
+  -- returns the declarations of each block in a procedure with ordinal `k - 1`
   pub blocks_in_procedure : {N : Type 0} → ℕ → Tree N (item procedure) → List (Scope N)
   blocks_in_procedure k (declares_procedure x fs b closing) =
       blocks_in (after_names k (formal_names (formal_sections fs)))
@@ -45,27 +46,28 @@ abbrev mutual
 abbrev pub declares_ordinal : Scope Name → ℕ → Bool
 declares_ordinal own d = list_any (λ b. b.1 == d) own
 
--- returns true if a declaration of the block other than `d` has this name
+-- returns true if a declaration of the block other than `d` has the name `new`
 abbrev pub names_another : Scope Name → ℕ → Name → Bool
 names_another own d new = list_any (λ b. same_name b.0 new && not (b.1 == d)) own
 
--- returns true if another declaration of `d`'s block has the new name
+-- returns true if a declaration other than `d`, in the block that declares `d`, has the name `new`
 abbrev pub is_duplicate : Tree Name module_text → ℕ → Name → Bool
 is_duplicate m d new =
     list_any (λ own. declares_ordinal own d && names_another own d new)
     (blocks_in predeclared_count [] (module_block m))
 
--- Holds if a new name is free. No other declaration of `d`'s block has it, and after the renaming each occurrence is
--- still bound to its declaration.
+-- Holds if the name `new` is free for the declaration `d`. No other declaration of its block has
+-- this name, and after the renaming each occurrence has the same binding as before.
 abbrev pub Free : Tree Name module_text → ℕ → Name → Type 0
 Free m d new = (is_duplicate m d new ≡ false) × (bindings (renamed m d new) ≡ bindings m)
 
--- returns true if two occurrences are bound to the same declaration, or are the same unbound name
+-- returns true if two labels are the same ordinal, or the same spelling of an unbound name
 abbrev pub same_binding : Label → Label → Bool
 same_binding (as_written x) (as_written y) = same_name x y
 same_binding a b = same_label a b
 
--- returns the first position at which two lists of labels differ; None if they don't
+-- returns the first position at which two lists of labels differ; None if there is none before the
+-- end of one list
 abbrev pub first_difference : List Label → List Label → Option ℕ
 first_difference (a ∷ as₁) (b ∷ bs) =
     if same_binding a b then option_map suc (first_difference as₁ bs) else Some 0

@@ -11,14 +11,15 @@ use Rattle.ob0_language_names.specs.Parts.{block_constants, block_procedures, bl
 abbrev pub Scope : Type 0 → Type 0
 Scope N = List (N × ℕ)
 
--- returns the ordinal of the declaration that a name is bound to, which is its first binding; None if there is none
+-- returns the ordinal of the declaration that a name is bound to, which is the first with this name
+-- in the scope; None if there is none
 abbrev pub ordinal_of : {N : Type 0} → Naming N → Scope N → N → Option ℕ
 ordinal_of naming [] x = None
 ordinal_of naming (b ∷ scope) x =
     elim (naming.same x b.0) [ true ↦ Some b.1 | false ↦ ordinal_of naming scope x ]
 
--- Returns the scope to which the names of a list are added. Their ordinals count up from `k`. Declarations are numbered
--- in text order, the predeclared names from 0 to 6.
+-- Returns the scope with the names of a list added. Their ordinals count up from `k`. Declarations
+-- are numbered in text order, the predeclared names from 0 to 6.
 abbrev pub declare_names : {N : Type 0} → ℕ → List N → Scope N → Scope N
 declare_names k [] scope = scope
 declare_names k (x ∷ xs) scope = declare_names (suc k) xs ((x, k) ∷ scope)
@@ -27,7 +28,7 @@ declare_names k (x ∷ xs) scope = declare_names (suc k) xs ((x, k) ∷ scope)
 abbrev pub predeclared_count : ℕ
 predeclared_count = 7
 
--- the scope of the outermost block, which has the predeclared names
+-- returns the scope of the outermost block, which has the predeclared names
 abbrev pub predeclared_scope : {N : Type 0} → Naming N → Scope N
 predeclared_scope naming =
     declare_names 0 (map naming.predeclared (0 ∷ 1 ∷ 2 ∷ 3 ∷ 4 ∷ 5 ∷ 6 ∷ [])) []
@@ -61,12 +62,12 @@ abbrev mutual
 abbrev pub Labels : Type 0 → Type 0 → Type 0
 Labels N M = Option ℕ → N → M
 
--- returns the label of a looked-up name
+-- returns the label of a looked-up name, given the scope at its place
 abbrev pub label_of : {N M : Type 0} → Naming N → Labels N M → Scope N → N → M
 label_of naming label scope x = label (ordinal_of naming scope x) x
 
--- Returns a tree that declares nothing with labels instead of names. Its names are looked up, and its fields are bound
--- to nothing.
+-- Returns a tree without declarations, with labels instead of names. Names are looked up in
+-- `scope`, and the names of fields get the labels of unbound names.
 abbrev pub relabel_uses : {N M : Type 0} {s : Sort}
     → Naming N
     → Labels N M
@@ -75,12 +76,13 @@ abbrev pub relabel_uses : {N M : Type 0} {s : Sort}
     → Tree M s
 relabel_uses naming label scope = with_names (label_of naming label scope) (label None)
 
--- returns the labels of declared names, whose ordinals count up from `k`
+-- returns the labels of names that are declared with ordinals from `k` upwards
 abbrev pub label_names : {N M : Type 0} → Labels N M → ℕ → List N → List M
 label_names label k [] = []
 label_names label k (x ∷ xs) = label (Some k) x ∷ label_names label (suc k) xs
 
--- returns the names of a list after the first one, with labels
+-- returns the names of a list after the first one with their labels; they are declared with
+-- ordinals from `k` upwards
 abbrev pub relabel_further : {N M : Type 0}
     → Labels N M
     → ℕ
@@ -90,12 +92,13 @@ relabel_further label k end = end
 relabel_further label k (more (then_name x) rest) =
     more (then_name (label (Some k) x)) (relabel_further label (suc k) rest)
 
--- returns a list of declared names, with labels
+-- returns a list of declared names with their labels; their ordinals count up from `k`
 abbrev pub relabel_names : {N M : Type 0} → Labels N M → ℕ → Tree N names → Tree M names
 relabel_names label k (listed x rest) =
     listed (label (Some k) x) (relabel_further label (suc k) rest)
 
--- returns constants with labels; a constant is visible after its right side
+-- returns constants with labels instead of names; their ordinals count up from `k`, and each is
+-- visible after its right side
 abbrev pub relabel_constants : {N M : Type 0}
     → Naming N
     → Labels N M
@@ -108,7 +111,8 @@ relabel_constants naming label scope k (more (declares_constant x e) cs) =
     more (declares_constant (label (Some k) x) (relabel_uses naming label scope e))
     (relabel_constants naming label ((x, k) ∷ scope) (suc k) cs)
 
--- returns types with labels; a type is visible after its right side
+-- returns types with labels instead of names; their ordinals count up from `k`, and each is visible
+-- after its right side
 abbrev pub relabel_types : {N M : Type 0}
     → Naming N
     → Labels N M
@@ -121,7 +125,8 @@ relabel_types naming label scope k (more (declares_type x t) ds) =
     more (declares_type (label (Some k) x) (relabel_uses naming label scope t))
     (relabel_types naming label ((x, k) ∷ scope) (suc k) ds)
 
--- returns variables with labels; a variable is visible after its type
+-- returns variables with labels instead of names; their ordinals count up from `k`, and each is
+-- visible after its type
 abbrev pub relabel_variables : {N M : Type 0}
     → Naming N
     → Labels N M
@@ -135,7 +140,7 @@ relabel_variables naming label scope k (more (declares_variable ns t) gs) =
     (relabel_variables naming label (declare_names k (names_listed ns) scope)
     (after_names k (names_listed ns)) gs)
 
--- returns a section of parameters, with labels
+-- returns a section of parameters with labels instead of names; their ordinals count up from `k`
 abbrev pub relabel_section : {N M : Type 0}
     → Naming N
     → Labels N M
@@ -148,7 +153,8 @@ relabel_section naming label scope k (value_section ns t) =
 relabel_section naming label scope k (variable_section ns t) =
     variable_section (relabel_names label k ns) (relabel_uses naming label scope t)
 
--- returns further sections of parameters, with labels; a parameter is visible after its section's type
+-- returns further sections of parameters with labels instead of names; ordinals count up from `k`,
+-- and a parameter is visible after its section's type
 abbrev pub relabel_sections : {N M : Type 0}
     → Naming N
     → Labels N M
@@ -162,7 +168,7 @@ relabel_sections naming label scope k (more (then_section s) fs) =
     (relabel_sections naming label (declare_names k (section_names s) scope)
     (after_names k (section_names s)) fs)
 
--- returns formal parameters, with labels
+-- returns formal parameters with labels instead of names; their ordinals count up from `k`
 abbrev pub relabel_formals : {N M : Type 0}
     → Naming N
     → Labels N M
@@ -177,7 +183,8 @@ relabel_formals naming label scope k (one (some_formals s fs)) =
     (relabel_sections naming label (declare_names k (section_names s) scope)
     (after_names k (section_names s)) fs))
 
--- returns a CONST section, with labels
+-- returns a CONST section with labels instead of names; the ordinals of its constants count up from
+-- `k`
 abbrev pub relabel_constant_section : {N M : Type 0}
     → Naming N
     → Labels N M
@@ -189,7 +196,7 @@ relabel_constant_section naming label scope k none = none
 relabel_constant_section naming label scope k (one (declares_constants cs)) =
     one (declares_constants (relabel_constants naming label scope k cs))
 
--- returns a TYPE section, with labels
+-- returns a TYPE section with labels instead of names; the ordinals of its types count up from `k`
 abbrev pub relabel_type_section : {N M : Type 0}
     → Naming N
     → Labels N M
@@ -201,7 +208,8 @@ relabel_type_section naming label scope k none = none
 relabel_type_section naming label scope k (one (declares_types ts)) =
     one (declares_types (relabel_types naming label scope k ts))
 
--- returns a VAR section, with labels
+-- returns a VAR section with labels instead of names; the ordinals of its variables count up from
+-- `k`
 abbrev pub relabel_variable_section : {N M : Type 0}
     → Naming N
     → Labels N M
@@ -213,7 +221,7 @@ relabel_variable_section naming label scope k none = none
 relabel_variable_section naming label scope k (one (declares_variables vs)) =
     one (declares_variables (relabel_variables naming label scope k vs))
 
--- returns the scope to which a block's procedures are added; `k` is the ordinal of the first one
+-- returns the scope with a block's procedures added; `k` is the ordinal of the first one
 abbrev pub declare_procedure_names : {N : Type 0} → ℕ → Tree N (items procedure) → Scope N → Scope N
 declare_procedure_names k end scope = scope
 declare_procedure_names k (more p rest) scope =
@@ -231,29 +239,34 @@ first_variable k b = after_names (first_type k b) (named_types (block_types b))
 abbrev pub first_procedure : {N : Type 0} → ℕ → Tree N block → ℕ
 first_procedure k b = after_names (first_variable k b) (variable_names (block_variables b))
 
--- returns the scope at the start of a block's types
+-- returns the scope at the start of a block's types; `k` is the ordinal of the block's first
+-- declaration, and `scope` the scope around the block
 abbrev pub types_scope : {N : Type 0} → ℕ → Tree N block → Scope N → Scope N
 types_scope k b scope = declare_names k (constant_names (block_constants b)) scope
 
--- returns the scope at the start of a block's variables
+-- returns the scope at the start of a block's variables; `k` is the ordinal of the block's first
+-- declaration, and `scope` the scope around the block
 abbrev pub variables_scope : {N : Type 0} → ℕ → Tree N block → Scope N → Scope N
 variables_scope k b scope =
     declare_names (first_type k b) (named_types (block_types b)) (types_scope k b scope)
 
--- returns the scope at the start of a block's procedures
+-- returns the scope at the start of a block's procedures; `k` is the ordinal of the block's first
+-- declaration, and `scope` the scope around the block
 abbrev pub procedures_scope : {N : Type 0} → ℕ → Tree N block → Scope N → Scope N
 procedures_scope k b scope =
     declare_names (first_variable k b) (variable_names (block_variables b))
     (variables_scope k b scope)
 
--- returns the scope of a block's statements
+-- returns the scope of a block's statements; `k` is the ordinal of the block's first declaration,
+-- and `scope` the scope around the block
 abbrev pub body_scope : {N : Type 0} → ℕ → Tree N block → Scope N → Scope N
 body_scope k b scope =
     declare_procedure_names (first_procedure k b) (block_procedures b) (procedures_scope k b scope)
 
--- Returns a block, its procedures or one procedure with labels. `scope` is the scope around them.
+-- Returns a block, its procedures or one procedure with labels instead of names. `scope` is the
+-- scope around them.
 abbrev mutual
-  -- returns a block with labels; its first declaration has ordinal `k`
+  -- returns a block with labels instead of names; its first declaration has ordinal `k`
   pub relabel_block : {N M : Type 0}
       → Naming N
       → Labels N M
@@ -276,7 +289,8 @@ abbrev mutual
       (relabel_uses naming label (body_scope k (has_body (declares cs ts vs ps) statements) scope)
       statements)
 
-  -- returns procedures with labels; the first one has ordinal `k`, and each is visible to the later ones
+  -- returns procedures with labels instead of names; the first one has ordinal `k`, and each is
+  -- visible to the later ones
   pub relabel_procedures : {N M : Type 0}
       → Naming N
       → Labels N M
@@ -290,8 +304,8 @@ abbrev mutual
       (relabel_procedures naming label ((procedure_name p, k) ∷ scope) (after_procedure (suc k) p)
       rest)
 
-  -- returns a procedure with labels; it has ordinal `k`, it is visible after its heading, and its closing name gets its
-  -- label
+  -- returns a procedure with labels instead of names; it has ordinal `k`, is visible after its
+  -- heading, and its closing name has the same label as its name
   pub relabel_procedure : {N M : Type 0}
       → Naming N
       → Labels N M
@@ -306,7 +320,7 @@ abbrev mutual
       (after_names (suc k) (formal_names (formal_sections fs))) b)
       (label (Some k) closing)
 
--- returns a module with labels; the name of the module is in no scope
+-- returns a module with labels instead of names; the name of the module is in no scope
 abbrev pub relabelled : {N M : Type 0}
     → Naming N
     → Labels N M
@@ -316,7 +330,8 @@ relabelled naming label (is_module x b closing) =
     is_module (label None x) (relabel_block naming label (predeclared_scope naming) predeclared_count b)
     (label None closing)
 
--- labels a name by the ordinal of its declaration, or by the name as written if no declaration binds it
+-- returns the ordinal of a name's declaration as a label, or the name's spelling if no declaration
+-- binds it
 abbrev pub as_label : {N : Type 0} → Naming N → Labels N Label
 as_label naming None x = as_written (naming.written x)
 as_label naming (Some k) x = declared k

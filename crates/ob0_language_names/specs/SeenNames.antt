@@ -6,7 +6,7 @@ use Rattle.ob0_language_names.specs.Names.{Name, Naming, predeclared_name, same_
 use Rattle.ob0_language_names.specs.Occurrences.{label_ordinal}
 use Rattle.ob0_language_names.specs.Scopes.{as_label, relabelled}
 
--- reads a tree as if every looked-up name were `y`
+-- the interpretation of names in which each looked-up name counts as `y`
 abbrev pub looking_for : Name → Naming Name
 looking_for y = record { same = λ x. same_name y; written = λ x. x; predeclared = predeclared_name }
 

@@ -1,4 +1,5 @@
--- The values, places and meanings of names in a run that fit the types that the checker gives them.
+-- The values, places and meanings of names in a run that agree with the types that the checker
+-- gives them.
 -- Rule: docs/LANGUAGE.md, Runs 11.
 use Rattle.std.specs.Prelude.{◌≡◌, true, List, [], ◌∷◌, map, if◌then◌else◌, nat_lt, slice_get, Some, None, Option, option_and_then}
 use Rattle.ob0_language_names.specs.Names.{Naming}
@@ -9,7 +10,7 @@ use Rattle.ob0_language_types.specs.WellTyped.{Mode, Signature, TypeEnvironment,
 use Rattle.ob0_language_values.specs.Values.{FieldShapes, Members, Place, Shape, Step, Store, Value, Values, array_shape, at_field, at_index, boolean_shape, count_values, elements, integer_shape, members, next_field_shape, next_member, next_value, no_field_shape, no_member, no_value, number, record_shape, truth}
 use Rattle.ob0_language_runs.specs.Runs.{Activation, Argument, ProcedureText, passing, place_argument, value_argument}
 
--- Holds if a value has a type.
+-- Holds if a value has a type, including the types of its parts.
 abbrev mutual
   -- Holds if a value has this type. An array has the length of its type, and a record comes from the RECORD of its
   -- type. The parts of the value have the types of the type's parts.
@@ -44,25 +45,28 @@ abbrev pub shape_at_path : List Step → Shape → Option Shape
 shape_at_path [] s = Some s
 shape_at_path (step ∷ path) s = option_and_then (shape_at_path path) (part_shape s step)
 
--- the types of a store's variables, by their indexes; during a run, types are only added
+-- the types of a store's variables, by their indexes; the proofs extend this list as a run adds
+-- variables
 abbrev pub StoreTyping : Type 0
 StoreTyping = List Shape
 
--- holds if each variable of the store has a value of its type
+-- holds if the store has as many variables as the list has types, and each has a value of its type
 abbrev pub StoreFits : StoreTyping → Store → Type 0
 StoreFits [] [] = Unit {0}
 StoreFits (s ∷ ss) (v ∷ vs) = HasShape v s × StoreFits ss vs
 StoreFits _ _ = ⊥
 
--- holds if a place has this type
+-- holds if the part of a variable that a place denotes has this type
 abbrev pub PlaceFits : StoreTyping → Place → Shape → Type 0
 PlaceFits typing p s = option_and_then (shape_at_path p.path) (slice_get typing p.variable) ≡ Some s
 
--- returns the modes of a procedure's parameters
+-- returns the modes of a procedure's parameters, given its signature
 abbrev pub modes_in : Signature → List Mode
 modes_in = map (λ f. f.mode)
 
--- holds if the meaning of a name in a run fits its meaning in the checked module, or it has none in both
+-- Holds if a name's object in the checked module and its object in a run agree, or it has none in
+-- both. They have the same type or the same constant, or the place of a variable has the variable's
+-- type.
 abbrev pub ObjectFits : StoreTyping
     → Option (Object Shape Signature)
     → Option (Object Place (List Mode))
@@ -76,7 +80,8 @@ ObjectFits typing (Some (a_procedure signature)) (Some (a_procedure modes)) =
 ObjectFits typing (Some (a_standard p)) (Some (a_standard q)) = p ≡ q
 ObjectFits typing _ _ = ⊥
 
--- holds if the meanings of all names in a run fit those in the checked module, and fields are spelled alike
+-- holds if each name's object in a run agrees with its object in the checked module, and fields are
+-- spelled alike in both
 abbrev pub MeaningsFit : {N : Type 0}
     → StoreTyping
     → Typed N
@@ -86,7 +91,8 @@ MeaningsFit {N} typing checked active =
     ((x : N) → ObjectFits typing (checked.object_for x) (active.object_for x))
     × ((x : N) → checked.written x ≡ active.written x)
 
--- holds if the arguments of a call fit the signature of the called procedure, one by one
+-- holds if the arguments of a call have the modes and types of the called procedure's parameters,
+-- one by one
 abbrev pub ArgumentsFit : StoreTyping → Signature → List Argument → Type 0
 ArgumentsFit typing [] [] = Unit {0}
 ArgumentsFit typing (f ∷ fs) (place_argument p ∷ args) =
@@ -95,8 +101,9 @@ ArgumentsFit typing (f ∷ fs) (value_argument v ∷ args) =
     (f.mode ≡ by_value) × HasShape v f.shape × ArgumentsFit typing fs args
 ArgumentsFit typing _ _ = ⊥
 
--- holds if the binding of a name in an activation fits its binding in a checked environment, given the earlier bindings
--- of that environment
+-- Holds if the object that a name is bound to in an activation agrees with its object in the
+-- checked environment. The environment in front has the earlier bindings of the checked
+-- environment.
 abbrev pub BindingFits : {N : Type 0}
     → Naming N
     → StoreTyping
@@ -114,7 +121,7 @@ BindingFits {N} naming typing checked x (a_procedure signature) (a_procedure cod
     ≡ true)
 BindingFits naming typing checked x o r = ObjectFits typing (Some o) (passing (Some r))
 
--- holds if the environment of a run fits the checked environment, binding by binding
+-- holds if the environment of a run agrees with the checked environment, binding by binding
 abbrev pub EnvironmentsFit : {N : Type 0}
     → Naming N
     → StoreTyping

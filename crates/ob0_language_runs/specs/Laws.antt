@@ -35,7 +35,8 @@ FreeKeepsRuns =
     → (input : List ℤ) (c t : ℕ)
     → run (renamed m d new) input c t ≡ run m input c t
 
--- Dropping a call's variables when the call returns changes no run of any tree, under any naming.
+-- If each call drops its variables when it returns, every tree has the same run as without this,
+-- whether its names are spellings or labels.
 abbrev pub FreeingKeepsRuns : Type 0
 FreeingKeepsRuns =
     ((naming : Naming Name) (m : Tree Name module_text) (input : List ℤ) (c t : ℕ)

@@ -24,7 +24,7 @@ pub record State : Type 0 where
   pub input : List ℤ
   pub output : List Written
 
--- a run that continues or has ended; in both cases the earlier output is kept
+-- a run that continues with a state, or has ended with the output before its end
 pub data Progress : Type 0 where
   running : State → Progress
   stopped : End → List Written → Progress
@@ -34,12 +34,13 @@ pub data Argument : Type 0 where
   place_argument : Place → Argument
   value_argument : Value → Argument
 
--- continues with the result of an evaluation in a state, or ends the run as the evaluation did
+-- continues with the result of an evaluation, or ends the run as the evaluation did, with the
+-- output of the state `s`
 abbrev pub use_in : {A : Type 0} → State → Outcome A → (A → Progress) → Progress
 use_in s (gives a) next = next a
 use_in s (ends e) next = stopped e s.output
 
--- continues a run unless it has ended
+-- continues a run with a function if it hasn't ended
 abbrev pub continue_with : Progress → (State → Progress) → Progress
 continue_with (running s) next = next s
 continue_with (stopped e out) next = stopped e out
@@ -103,7 +104,8 @@ evaluate_arguments meaning store (m ∷ ms) (e ∷ es) = do
   gives (a ∷ rest)
 evaluate_arguments meaning store _ _ = ends Stuck
 
--- performs a call with evaluated arguments; the standard procedures don't count for the bound `c`
+-- Performs a call with evaluated arguments. `enter` performs the call of a declared procedure; a
+-- standard procedure is performed directly, so it doesn't count for the bound on calls.
 abbrev pub perform : Option (Object Place (List Mode))
     → (List Argument → State → Progress)
     → List Argument
@@ -116,8 +118,8 @@ perform (Some (a_standard writes)) enter (value_argument (number n) ∷ []) s =
 perform (Some (a_standard writes_line)) enter [] s = running (append_output s line_out)
 perform _ enter args s = stopped Stuck s.output
 
--- Executes WHILE with its condition. If the condition is FALSE, the statement ends. If it is TRUE, one more iteration
--- is made, or the run ends with TurnBound if `t` is 0.
+-- Executes WHILE with its condition and statements. If the condition is FALSE, the statement ends.
+-- If it is TRUE, one more iteration is made, or the run ends with TurnBound if `t` is 0.
 abbrev pub turns : ℕ → (State → Outcome Value) → (State → Progress) → State → Progress
 turns zero condition statements s =
     use_in s (condition s) (λ v. choose s v (λ s'. stopped TurnBound s'.output) running)
@@ -125,13 +127,13 @@ turns (suc t) condition statements s =
     use_in s (condition s) (λ v. choose s v
     (λ s'. continue_with (statements s') (turns t condition statements)) running)
 
--- a function that performs a call of a name with arguments
+-- functions that perform the call of a name with arguments in a state
 abbrev pub Calls : Type 0 → Type 0
 Calls N = N → List Argument → State → Progress
 
--- Executes REPEAT: makes an iteration and then evaluates its condition. If the condition is TRUE, the statement ends.
--- If it is FALSE, one more iteration is made, or the run ends with TurnBound if `t` is 0. So `t` bounds the iterations
--- after the first one.
+-- Executes REPEAT: makes an iteration and then evaluates its condition. If the condition is TRUE,
+-- the statement ends. If it is FALSE, one more iteration is made, or the run ends with TurnBound if
+-- `t` is 0. So `t` bounds the number of iterations after the first one.
 abbrev pub turns_until : ℕ → (State → Outcome Value) → (State → Progress) → State → Progress
 turns_until zero condition turn s =
     continue_with (turn s) (λ s'. use_in s' (condition s')
@@ -140,7 +142,8 @@ turns_until (suc t) condition turn s =
     continue_with (turn s)
     (λ s'. use_in s' (condition s') (λ v. choose s' v running (turns_until t condition turn)))
 
--- Executes a statement. An assignment finds its place, then evaluates its right side, then stores a copy.
+-- Executes a statement. An assignment determines the place first, then evaluates its right side,
+-- and then stores a copy of the value.
 unfoldable mutual
   unfolding evaluate designate evaluate_arguments
 
@@ -193,7 +196,7 @@ unfoldable mutual
   execute_further meaning enter t (more (then_statement a) rest) s =
       continue_with (execute meaning enter t a s) (execute_further meaning enter t rest)
 
-  -- executes the ELSIF parts, then `otherwise` if no condition among them is TRUE
+  -- executes the first ELSIF part whose condition is TRUE, or `otherwise` if there is none
   pub execute_elsifs : {N : Type 0}
       → Meanings N Place (List Mode)
       → Calls N
@@ -228,12 +231,13 @@ pub record ProcedureText (N : Type 0) : Type 0 where
 abbrev pub Activation : Type 0 → Type 0
 Activation N = Environment N Place (ProcedureText N)
 
--- the environment and the store in which a block's statements run
+-- the environment and the store in which a block's statements are executed
 pub record Frame (N : Type 0) : Type 0 where
   pub env : Activation N
   pub store : Store
 
--- adds a new variable for each name at the end of the store, all with the value `v`
+-- Adds a new variable for each name at the end of the store, all with the value `v`, and binds the
+-- names to them.
 abbrev pub allocate : {N : Type 0} → List N → Value → Frame N → Frame N
 allocate [] v f = f
 allocate (x ∷ xs) v f =
@@ -243,7 +247,8 @@ allocate (x ∷ xs) v f =
       store = f.store ++ v ∷ [];
     }
 
--- adds new variables, which begin as 0 and FALSE (rule 1); None if a type has an error
+-- Adds new variables, with 0 or FALSE in each of their parts (rule 1). `k` is the ordinal of the
+-- first ARRAY or RECORD. Returns None if a type has an error.
 unfoldable pub declare_variables : {N : Type 0}
     → Naming N
     → ℕ
@@ -257,7 +262,8 @@ declare_variables naming k (more (declares_variable ns u) gs) f =
     (allocate (names_listed ns) (initial s) f))
     (denoted (meanings naming f.env) k u)
 
--- binds procedures, each with the ordinal of its first ARRAY or RECORD
+-- returns the environment with procedures added, each with the ordinal of its first ARRAY or
+-- RECORD; `k` is the ordinal of the first one of all
 abbrev pub declare_procedures : {N : Type 0}
     → ℕ
     → Tree N (items procedure)
@@ -268,11 +274,13 @@ declare_procedures k (more p rest) env =
     declare_procedures (k + procedure_constructors p) rest
     ((procedure_name p, a_procedure record { first_constructor = k; text = p }) ∷ env)
 
--- adds the procedures of a block to the environment of a frame
+-- adds the procedures of a block to the environment of a frame; `k` is the ordinal of their first
+-- ARRAY or RECORD
 abbrev pub with_procedures : {N : Type 0} → ℕ → Tree N (items procedure) → Frame N → Frame N
 with_procedures k ps f = record { env = declare_procedures k ps f.env; store = f.store }
 
--- declares constants and types, then variables, then procedures; None if one of them has an error
+-- Adds a block's constants and types, then its variables, then its procedures to a frame. `k` is
+-- the ordinal of the block's first ARRAY or RECORD. Returns None if one of them has an error.
 unfoldable pub declare_block : {N : Type 0}
     → Naming N
     → ℕ
@@ -322,7 +330,8 @@ formal_modes end = []
 formal_modes (more (then_section f) fs) =
     map (λ x. section_mode f) (section_names f) ++ formal_modes fs
 
--- returns the meaning of a name for statements, which need to know only the modes of a procedure's parameters
+-- returns the object of a name as statements see it: of a procedure they need to know only the
+-- modes of its parameters
 abbrev pub passing : {N : Type 0}
     → Option (Object Place (ProcedureText N))
     → Option (Object Place (List Mode))
@@ -356,7 +365,7 @@ execute_body naming env enter t none s = running s
 execute_body naming env enter t (one (begins statements)) s =
     execute_all (statement_meanings naming env) enter t statements s
 
--- continues a run with the store of a frame; without a frame the run is stuck
+-- continues a run with a frame and with the frame's store; without a frame the run is stuck
 abbrev pub in_frame : {N : Type 0}
     → State
     → Option (Frame N)
@@ -365,8 +374,9 @@ abbrev pub in_frame : {N : Type 0}
 in_frame s None next = stopped Stuck s.output
 in_frame s (Some f) next = next f record s { store = f.store }
 
--- Runs the body of the procedure at the head of an environment. The call has its own variables. It sees the bindings
--- that were visible at the procedure's declaration, in the activation that declared it.
+-- Runs the body of the procedure that the first binding of an environment names. The call has its
+-- own variables. It sees the bindings that were visible at the procedure's declaration, in the
+-- activation that declared it.
 unfoldable pub activate : {N : Type 0}
     → Naming N
     → (Activation N → Calls N)
@@ -385,7 +395,8 @@ activate naming enter t ((x, a_procedure code) ∷ rest) args s =
     (λ f. execute_body naming f.env (enter f.env) t (block_statements (procedure_block code.text)))
 activate naming enter t _ args s = stopped Stuck s.output
 
--- Performs a call if `c` more calls may be open. The store keeps the call's variables after it returns.
+-- Performs a call if `c`, the number of calls that may still be open, isn't 0. The store keeps the
+-- call's variables after it returns.
 unfoldable pub call : {N : Type 0} → Naming N → ℕ → ℕ → Activation N → Calls N
 unfolding activate
 call naming zero t env x args s = stopped CallBound s.output
@@ -397,12 +408,14 @@ pub record Run : Type 0 where
   pub output : List Written
   pub ending : End
 
--- returns the result of a run after the module's body; it ends with Done if the end of the body was reached
+-- returns the result of a run, given the progress after the module's body: it ends with Done if the
+-- end of the body was reached
 abbrev pub finished : Progress → Run
 finished (running s) = record { output = s.output; ending = Done }
 finished (stopped e out) = record { output = out; ending = e }
 
--- returns the result of running a tree; `enter` performs calls
+-- returns the result of running a tree; `enter` performs calls, and the number bounds the
+-- iterations of each loop
 unfoldable pub run_by : {N : Type 0}
     → Naming N
     → (Activation N → Calls N)
@@ -417,17 +430,20 @@ run_by naming enter t m input =
     (declare_block naming 0 (module_block m) record { env = outermost naming; store = [] })
     (λ f. execute_body naming f.env (enter f.env) t (block_statements (module_block m))))
 
--- returns the result of running a tree over names of any kind
+-- returns the result of running a tree with names of any kind; `c` bounds the open calls, and `t`
+-- the iterations of each loop
 unfoldable pub run_over : {N : Type 0} → Naming N → Tree N module_text → List ℤ → ℕ → ℕ → Run
 unfolding run_by call
 run_over naming m input c t = run_by naming (call naming c t) t m input
 
--- returns the result of running a module whose names are as they are written
+-- returns the result of running a module with this input; the first bound is on open calls, the
+-- second on the iterations of each loop
 unfoldable pub run : Tree Name module_text → List ℤ → ℕ → ℕ → Run
 unfolding run_over
 run = run_over as_names
 
--- returns the result of running a numbered tree
+-- returns the result of running a numbered tree with this input; the first bound is on open calls,
+-- the second on the iterations of each loop
 unfoldable pub run_numbered : Tree Label module_text → List ℤ → ℕ → ℕ → Run
 unfolding run_over
 run_numbered = run_over as_labels

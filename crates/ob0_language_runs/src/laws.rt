@@ -8,7 +8,7 @@
 ghost use Rattle.ob0_language_runs.specs.Laws.{RunsByOrdinal, RunsByShape, FreeKeepsRuns, FreeingKeepsRuns, NeverStuck, InliningKeepsExecution};
 ghost use Rattle.ob0_language_runs.specs.EditLaws.{FreeKeepsModules, InliningKeepsModules, LeavingOutKeepsModules, InliningEverywhereKeepsModules};
 
-/// Proves that a module has the same run as its numbered tree.
+/// Proves that a module and its numbered tree have the same run for every input and all bounds.
 pub fn runs_by_ordinal()
     ensures { RunsByOrdinal }
 {}

@@ -13,12 +13,12 @@ use Rattle.ob0_language_types.specs.Expressions.{Object, a_variable}
 use Rattle.ob0_language_types.specs.WellTyped.{Signature, TypeEnvironment, bind_typed, heading, typed_parameters}
 use Rattle.ob0_language_values.specs.Values.{Shape}
 
--- Returns the bindings that an environment has in addition to an earlier one. These are its first ones, because the
--- newest come first.
+-- Returns the bindings that the environment `now` has in addition to the earlier environment
+-- `before`. These are its first ones, because the newest come first.
 abbrev pub since : {A : Type 0} → List A → List A → List A
 since before now = take (length now - length before) now
 
--- returns the list that is made from an optional value; empty if there is no value
+-- returns the list that a function makes from an optional value; empty for None
 abbrev pub for_some : {A B : Type 0} → Option A → (A → List B) → List B
 for_some None list = []
 for_some (Some a) list = list a
@@ -27,7 +27,7 @@ for_some (Some a) list = list a
 unfoldable mutual
   unfolding declare_procedure typed_parameters
 
-  -- returns the bindings of a block; `k` is the ordinal of its first ARRAY or RECORD
+  -- returns the bindings of a block, newest first; `k` is the ordinal of its first ARRAY or RECORD
   pub block_bindings : {N : Type 0}
       → Naming N
       → TypeEnvironment N
@@ -40,7 +40,8 @@ unfoldable mutual
       (after_variables k (has_body (declares cs ts vs ps) statements)) ps
       ++ since env inner)
 
-  -- returns the bindings of procedures, beginning with the bindings of the last procedure
+  -- returns the bindings of procedures, beginning with the bindings of the last procedure; `k` is
+  -- the ordinal of their first ARRAY or RECORD
   pub procedures_bindings : {N : Type 0}
       → Naming N
       → TypeEnvironment N
@@ -53,7 +54,8 @@ unfoldable mutual
       (k + procedure_constructors p) rest
       ++ procedure_bindings naming env k p)
 
-  -- returns the bindings of a procedure: its block's bindings, its parameters and its name
+  -- returns the bindings of a procedure: its block's bindings, its parameters and its name; `k` is
+  -- the ordinal of its first ARRAY or RECORD
   pub procedure_bindings : {N : Type 0}
       → Naming N
       → TypeEnvironment N

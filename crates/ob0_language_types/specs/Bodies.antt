@@ -22,7 +22,8 @@ pub record BodyAt (N : Type 0) : Type 0 where
 unfoldable mutual
   unfolding typed_parameters
 
-  -- returns the bodies of a block's procedures, then its own body; empty if a declaration has an error
+  -- returns the bodies of a block's procedures, then its own body; empty if a declaration has an
+  -- error; `k` is the ordinal of its first ARRAY or RECORD
   pub block_bodies : {N : Type 0}
       → Naming N
       → TypeEnvironment N
@@ -34,7 +35,8 @@ unfoldable mutual
       (λ inner. procedures_bodies naming inner
       (after_variables k (has_body (declares cs ts vs ps) statements)) statements ps)
 
-  -- returns the bodies of procedures in text order, then the body of their block
+  -- returns the bodies of procedures in text order, and then the body of their block, whose
+  -- statements are given; `k` is the ordinal of their first ARRAY or RECORD
   pub procedures_bodies : {N : Type 0}
       → Naming N
       → TypeEnvironment N
@@ -50,7 +52,8 @@ unfoldable mutual
       ++ procedures_bodies naming (heading (procedure_name p) ps env)
       (k + procedure_constructors p) statements rest)
 
-  -- returns the bodies of a procedure's block, in an environment with the procedure's name and parameters
+  -- returns the bodies of a procedure's block, in an environment with the procedure's name and
+  -- parameters; `k` is the ordinal of its first ARRAY or RECORD
   pub procedure_bodies : {N : Type 0}
       → Naming N
       → TypeEnvironment N
@@ -67,7 +70,8 @@ module_bodies naming m = block_bodies naming (outermost naming) 0 (module_block 
 -- Holds if `Q` holds for each environment in which procedures or statements of a block, or of a block within it, are
 -- checked.
 abbrev mutual
-  -- holds for a block if `Q` holds after its constants, types and variables, and in its procedures
+  -- holds for a block if `Q` holds after its constants, types and variables, and in its procedures;
+  -- `k` is the ordinal of its first ARRAY or RECORD
   pub BlockHas : (TypeEnvironment Label → Type 0)
       → TypeEnvironment Label
       → ℕ
@@ -79,7 +83,8 @@ abbrev mutual
       → Q inner
       × ProceduresHave Q inner (after_variables k (has_body (declares cs ts vs ps) statements)) ps
 
-  -- holds for procedures if `Q` holds within each one, after the earlier ones, and after all of them
+  -- holds for procedures if `Q` holds within each one, after the earlier ones, and after all of
+  -- them; `k` is the ordinal of their first ARRAY or RECORD
   pub ProceduresHave : (TypeEnvironment Label → Type 0)
       → TypeEnvironment Label
       → ℕ
@@ -93,7 +98,8 @@ abbrev mutual
       × ProcedureHas Q (bind_typed ps (heading (procedure_name p) ps env)) k p
       × ProceduresHave Q (heading (procedure_name p) ps env) (k + procedure_constructors p) rest
 
-  -- holds for a procedure if `Q` holds in its block
+  -- holds for a procedure if `Q` holds in its block; `k` is the ordinal of its first ARRAY or
+  -- RECORD
   pub ProcedureHas : (TypeEnvironment Label → Type 0)
       → TypeEnvironment Label
       → ℕ

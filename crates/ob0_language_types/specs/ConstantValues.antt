@@ -1,5 +1,5 @@
--- The values of a module's constants. Only the names of constants matter for them; other names can only hide these
--- names.
+-- The values of a module's constants, computed in environments that have only the values of
+-- constants. Other names count only because they can hide a constant's name.
 -- Rule: docs/LANGUAGE.md, Types 6, 7.
 use Rattle.std.specs.Prelude.{None, Option, Some, if◌then◌else◌, map, nat_lt, option_and_then, suc, ℕ, ◌++◌, ◌==◌, ◌∷◌}
 use Rattle.ob0_tree.specs.Tree.{Tree, block, constant, declares, declares_constant, declares_procedure, end, has_body, item, items, module_text, more, procedure}
@@ -13,7 +13,7 @@ use Rattle.ob0_language_types.specs.Expressions.{Object, a_constant, a_procedure
 use Rattle.ob0_language_types.specs.Typing.{constant_value, ◌>>=◌}
 use Rattle.ob0_language_types.specs.WellTyped.{bind_names}
 
--- an environment that has the values of constants and nothing about other names
+-- environments that have the values of constants, and no facts about other names
 abbrev pub Known : Type 0
 Known = Environment Name (Unit {0}) (Unit {0})
 
@@ -29,7 +29,7 @@ known_object (a_variable p) = no_constant
 known_object (a_procedure p) = no_constant
 known_object (a_standard p) = no_constant
 
--- the environment of the predeclared names, of which only the constants have values
+-- returns the environment of the predeclared names, in which only the constants have values
 abbrev pub predeclared_known : Known
 predeclared_known =
     map (λ b. (b.0, known_object b.1)) (outermost {V = Unit {0}} {P = Unit {0}} as_names)

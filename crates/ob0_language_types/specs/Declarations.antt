@@ -9,7 +9,8 @@ use Rattle.ob0_language_types.specs.Environments.{Environment, meanings}
 use Rattle.ob0_language_types.specs.Expressions.{a_constant, a_type}
 use Rattle.ob0_language_types.specs.Typing.{constant_value, constructors, denoted, ◌>>=◌}
 
--- binds constants, each after its right side; None if a right side isn't a constant expression with a value
+-- Returns the environment with constants added, each after its right side. Returns None if a right
+-- side isn't a constant expression with a value.
 unfoldable pub declare_constants : {N V P : Type 0}
     → Naming N
     → Environment N V P
@@ -21,8 +22,8 @@ declare_constants naming env (more (declares_constant x e) cs) = do
   v ← constant_value (meanings naming env) e
   declare_constants naming ((x, a_constant v) ∷ env) cs
 
--- Binds types, each after its right side. `k` is the ordinal of the first ARRAY or RECORD. Returns None if a right side
--- denotes no type.
+-- Returns the environment with types added, each after its right side. `k` is the ordinal of the
+-- first ARRAY or RECORD. Returns None if a right side denotes no type.
 unfoldable pub declare_types : {N V P : Type 0}
     → Naming N
     → Environment N V P
@@ -35,7 +36,8 @@ declare_types naming env k (more (declares_type x u) ds) = do
   s ← denoted (meanings naming env) k u
   declare_types naming ((x, a_type s) ∷ env) (k + constructors u) ds
 
--- binds a block's constants, then its types; None if one of them has an error
+-- Returns the environment with a block's constants and then its types added. `k` is the ordinal of
+-- the block's first ARRAY or RECORD. Returns None if one of them has an error.
 unfoldable pub declare_first : {N V P : Type 0}
     → Naming N
     → Environment N V P
@@ -47,12 +49,12 @@ declare_first naming env k b = do
   with_constants ← declare_constants naming env (block_constants b)
   declare_types naming with_constants k (block_types b)
 
--- returns the number of words ARRAY and RECORD in a TYPE section
+-- returns the number of words ARRAY and RECORD in declarations of types
 abbrev pub types_constructors : {N : Type 0} → Tree N (items type_name) → ℕ
 types_constructors end = 0
 types_constructors (more (declares_type x u) ds) = constructors u + types_constructors ds
 
--- returns the number of words ARRAY and RECORD in a VAR section
+-- returns the number of words ARRAY and RECORD in declarations of variables
 abbrev pub variables_constructors : {N : Type 0} → Tree N (items variable) → ℕ
 variables_constructors end = 0
 variables_constructors (more (declares_variable ns u) gs) =

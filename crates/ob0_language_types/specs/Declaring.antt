@@ -8,7 +8,8 @@ use Rattle.ob0_language_types.specs.Declarations.{after_types, declare_first}
 use Rattle.ob0_language_types.specs.Typing.{◌>>=◌}
 use Rattle.ob0_language_types.specs.WellTyped.{TypeEnvironment, bind_typed, declare_typed, heading, procedure_fits, typed_parameters}
 
--- returns the environment after a procedure, or None if the procedure isn't well-typed
+-- Returns the environment after a procedure, which binds the procedure's name, or None if the
+-- procedure isn't well-typed. `k` is the ordinal of its first ARRAY or RECORD.
 unfoldable pub declare_procedure : {N : Type 0}
     → Naming N
     → TypeEnvironment N
@@ -22,7 +23,8 @@ declare_procedure naming env k p = do
       then Some (heading (procedure_name p) ps env)
       else None
 
--- returns the environment after a block's constants, types and variables, or None if one has an error
+-- Returns the environment after a block's constants, types and variables, or None if one of them
+-- has an error. `k` is the ordinal of the block's first ARRAY or RECORD.
 abbrev pub declare_block : {N : Type 0}
     → Naming N
     → TypeEnvironment N

@@ -28,21 +28,23 @@ IsScalar (truth b) = Unit {0}
 IsScalar (elements vs) = ⊥
 IsScalar (members k ms) = ⊥
 
--- Holds if the word TRUE or FALSE, written in place of an occurrence, means the predeclared constant there. For any
--- value that isn't a truth value it holds.
+-- Holds if the word TRUE or FALSE, written in place of an occurrence, means the predeclared
+-- constant there. It always holds for a value that isn't a truth value.
 abbrev pub IsPredeclaredTruth : Tree Name module_text → ℕ → Value → Type 0
 IsPredeclaredTruth m occurrence (truth true) = sees m occurrence (codes "TRUE") ≡ Some 2
 IsPredeclaredTruth m occurrence (truth false) = sees m occurrence (codes "FALSE") ≡ Some 3
 IsPredeclaredTruth m occurrence _ = Unit {0}
 
--- holds if `d` is a constant of a CONST section with the value `w`, which is written as the factor `v`
+-- holds if `d` is the ordinal of a constant in a CONST section, `w` is its value, and the factor
+-- `v` writes this value
 pub record IsConstantWritten
     (m : Tree Name module_text) (d : ℕ) (w : Value) (v : Tree Name factor) : Type 0 where
   pub value : value_of_constant m d ≡ Some w
   pub scalar : IsScalar w
   pub literal : written_value w ≡ Some v
 
--- holds if each use is bound to `d`, and the word written in its place means the predeclared constant
+-- Holds if each use is bound to the constant `d`. If `w` is a truth value, its word must also mean
+-- the predeclared constant in place of each use.
 pub record AreUsesOf (m : Tree Name module_text) (d : ℕ) (w : Value) (uses : Uses) : Type 0 where
   pub bound : (k : ℕ) → uses k ≡ true → binds m k ≡ Some d
   pub seen : (k : ℕ) → uses k ≡ true → IsPredeclaredTruth m k w
@@ -73,8 +75,8 @@ InliningEverywhereKeepsWellTyped =
     → WellTyped m
     → WellTyped (inlined_everywhere m d v)
 
--- In a well-typed module each use of a constant is a whole factor. The use is no type, called procedure or target of an
--- assignment, and it has no selectors.
+-- In a well-typed module each use of a constant is a whole factor. It isn't the name of a type, a
+-- called procedure or the target of an assignment, and it has no selectors.
 abbrev pub ConstantsAreAlone : Type 0
 ConstantsAreAlone =
     (m : Tree Name module_text) (d : ℕ) (w : Value) (v : Tree Name factor)

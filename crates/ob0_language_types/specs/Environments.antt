@@ -9,13 +9,15 @@ use Rattle.ob0_language_values.specs.Values.{boolean_shape, integer_shape, truth
 abbrev pub Environment : Type 0 → Type 0 → Type 0 → Type 0
 Environment N V P = List (N × Object V P)
 
--- returns the rest of an environment that begins with the first binding of a name; empty if nothing binds it
+-- returns the rest of an environment that begins with the newest binding of a name; empty if
+-- nothing binds the name
 abbrev pub from_binding : {N V P : Type 0} → Naming N → Environment N V P → N → Environment N V P
 from_binding naming [] x = []
 from_binding naming (b ∷ env) x =
     elim (naming.same x b.0) [ true ↦ b ∷ env | false ↦ from_binding naming env x ]
 
--- returns the object of the newest binding; None if there is no binding
+-- returns the object of the first binding, which is the newest one; None if the environment is
+-- empty
 abbrev pub newest : {N V P : Type 0} → Environment N V P → Option (Object V P)
 newest [] = None
 newest (b ∷ env) = Some b.1

@@ -9,7 +9,8 @@ use Rattle.ob0_language_values.specs.Values.{Index, Outcome, Place, Shape, Step,
 pub data Standard : Type 0 where
   reads writes writes_line : Standard
 
--- the meaning of a name; `V` is the type of the facts about a variable, and `P` the type of the facts about a procedure
+-- the object that a name means; `V` is the type of the facts about a variable, and `P` the type of
+-- the facts about a procedure
 pub data Object (V P : Type 0) : Type 0 where
   a_type : Shape → Object V P
   a_constant : Value → Object V P
@@ -22,25 +23,27 @@ pub record Meanings (N V P : Type 0) : Type 0 where
   pub object_for : N → Option (Object V P)
   pub written : N → Name
 
--- Returns the step to an element of an array. An index below 0 or not below the length ends the run with Index.
+-- Returns the step to the element of an array at an index. An index below 0 or not below the length
+-- ends the run with Index. Any other operands are stuck.
 abbrev pub element_step : Value → Value → Outcome Step
 element_step (elements vs) (number (pos i)) =
     if nat_lt i (count_values vs) then gives (at_index i) else ends Index
 element_step (elements vs) (number (negsuc i)) = ends Index
 element_step _ _ = ends Stuck
 
--- returns the place that a variable's name means, without selectors; any other name is stuck
+-- returns the place of the variable that a name means; for any other object the run is stuck
 abbrev pub object_place : {P : Type 0} → Option (Object Place P) → Outcome Place
 object_place (Some (a_variable p)) = gives p
 object_place _ = ends Stuck
 
--- returns the value of a constant, or of the variable at its place; any other object is stuck
+-- returns the value of a constant, or the value at a variable's place; for any other object the run
+-- is stuck
 abbrev pub object_value : {P : Type 0} → Store → Option (Object Place P) → Outcome Value
 object_value store (Some (a_constant v)) = gives v
 object_value store (Some (a_variable p)) = or_stuck (read_place store p)
 object_value store _ = ends Stuck
 
--- Returns the value of an expression, which is evaluated from left to right.
+-- Evaluates an expression from left to right: returns its value, or the end of the run.
 unfoldable mutual
   -- evaluates an expression: one simple expression, or a relation between two
   pub evaluate : {N P : Type 0} → Meanings N Place P → Store → Tree N expression → Outcome Value
@@ -57,8 +60,8 @@ unfoldable mutual
     y ← apply_sign s x
     evaluate_addends meaning store y rest
 
-  -- evaluates the further terms after an operand, from left to right; if the operand settles an OR, the next term isn't
-  -- evaluated
+  -- evaluates further terms after an operand with the value `x`, from left to right; if the left
+  -- operand settles an OR, its right operand isn't evaluated
   pub evaluate_addends : {N P : Type 0}
       → Meanings N Place P
       → Store
@@ -77,8 +80,8 @@ unfoldable mutual
     x ← evaluate_factor meaning store f
     evaluate_multipliers meaning store x rest
 
-  -- evaluates the further factors after an operand, from left to right; if the operand settles an `&`, the next factor
-  -- isn't evaluated
+  -- evaluates further factors after an operand with the value `x`, from left to right; if the left
+  -- operand settles an `&`, its right operand isn't evaluated
   pub evaluate_multipliers : {N P : Type 0}
       → Meanings N Place P
       → Store
@@ -101,7 +104,8 @@ unfoldable mutual
   evaluate_factor meaning store (parenthesised e) = evaluate meaning store e
   evaluate_factor meaning store (negation f) = evaluate_factor meaning store f >>= negate
 
-  -- returns the path into a value that selectors select
+  -- returns the path that selectors select in the value `v`; an index is evaluated and checked
+  -- against the length of its array
   pub follow : {N P : Type 0}
       → Meanings N Place P
       → Store

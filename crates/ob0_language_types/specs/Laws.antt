@@ -16,8 +16,8 @@ abbrev pub FitsByOrdinal : Type 0
 FitsByOrdinal =
     (m : Tree Name module_text) → fits_over as_names m ≡ fits_over as_labels (numbered m)
 
--- Two modules with the same numbered tree are both well-typed or neither is, if each declares every name once and its
--- closing names are right.
+-- Two modules with the same numbered tree are both well-typed or neither is. Both must declare no
+-- name twice in a block or record, and have the right closing names.
 abbrev pub WellTypedByShape : Type 0
 WellTypedByShape =
     (a b : Tree Name module_text)
@@ -37,7 +37,8 @@ ConstantsEvaluate =
     → constant_of (active.object_for x) ≡ Some w)
     → constant_value checked e ≡ Some v → evaluate active store e ≡ gives v
 
--- holds if `P` holds for each use in a list of occurrences, the first of which has number `k`
+-- holds if `P` holds for each name in the list whose number is among the uses; the first name has
+-- number `k`
 abbrev pub UsesAre : Uses → (Name → Type 0) → ℕ → List Name → Type 0
 UsesAre uses P k [] = Unit {0}
 UsesAre uses P k (x ∷ xs) = (uses k ≡ true → P x) × UsesAre uses P (suc k) xs

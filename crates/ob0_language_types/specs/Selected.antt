@@ -1,4 +1,4 @@
--- The selectors of a designator, and operations on two optional operands.
+-- The selectors of a designator, and operations with two optional operands.
 -- Rule: none; for contracts: steps of chains.
 use Rattle.std.specs.Prelude.{ℕ, Option, option_and_then}
 use Rattle.ob0_tree.specs.Tree.{Tree, items, selector}
@@ -9,6 +9,7 @@ use Rattle.ob0_tree.specs.declared.tree.Designator.{Designator, out-Designator}
 abbrev pub selectors_in : Designator → Tree ℕ (items selector)
 selectors_in d = items_of selector_of (out-Designator d).selectors.items
 
--- applies an operation to two optional operands; None if one is missing
+-- returns the result of an operation with two optional operands; None if an operand is missing or
+-- the operation has no result
 abbrev pub both : {A B C : Type 0} → (A → B → Option C) → Option A → Option B → Option C
 both operation a b = option_and_then (λ x. option_and_then (operation x) b) a

@@ -15,20 +15,23 @@ use Rattle.ob0_language_names.specs.Parts.{names_listed}
 use Rattle.ob0_language_types.specs.Expressions.{Meanings, Object, a_constant, a_type, a_variable, evaluate}
 use Rattle.ob0_language_values.specs.Values.{FieldShapes, Outcome, Shape, Value, array_shape, boolean_shape, ends, gives, integer_shape, next_field_shape, no_field_shape, number, record_shape, truth}
 
--- one step after another; None if one of them gives nothing
+-- applies a function to an optional value; None if there is no value or the function returns None
 infixl 20 ◌>>=◌
--- runs one step after another; None if one of them gives nothing
+-- applies the function `next` to an optional value; None if there is no value or the function
+-- returns None
 abbrev pub ◌>>=◌ : {A B : Type 0} → Option A → (A → Option B) → Option B
 ◌>>=◌ o next = option_and_then next o
 
--- returns the type of `+`, `-` and OR; both operands must be INTEGER, or for OR BOOLEAN
+-- returns the type of a sum, a difference or an OR of operands with these types; None unless both
+-- are INTEGER, or BOOLEAN for OR
 abbrev pub add_type : AddOperator → Shape → Shape → Option Shape
 add_type add_operator.Add integer_shape integer_shape = Some integer_shape
 add_type add_operator.Subtract integer_shape integer_shape = Some integer_shape
 add_type add_operator.Or boolean_shape boolean_shape = Some boolean_shape
 add_type _ _ _ = None
 
--- returns the type of `*`, DIV, MOD and `&`; both operands must be INTEGER, or for `&` BOOLEAN
+-- returns the type of a `*`, DIV, MOD or `&` of operands with these types; None unless both are
+-- INTEGER, or BOOLEAN for `&`
 abbrev pub multiply_type : MultiplyOperator → Shape → Shape → Option Shape
 multiply_type multiply_operator.Multiply integer_shape integer_shape = Some integer_shape
 multiply_type multiply_operator.Divide integer_shape integer_shape = Some integer_shape
@@ -36,26 +39,29 @@ multiply_type multiply_operator.Modulo integer_shape integer_shape = Some intege
 multiply_type multiply_operator.And boolean_shape boolean_shape = Some boolean_shape
 multiply_type _ _ _ = None
 
--- returns the type of a relation; `=` and `#` compare two INTEGER or two BOOLEAN, the others two INTEGER
+-- Returns the type of a relation of operands with these types, which is BOOLEAN. `=` and `#`
+-- compare two INTEGER or two BOOLEAN, the other relations two INTEGER. Returns None for other
+-- operands.
 abbrev pub relation_type : Relation → Shape → Shape → Option Shape
 relation_type r integer_shape integer_shape = Some boolean_shape
 relation_type relation.Equal boolean_shape boolean_shape = Some boolean_shape
 relation_type relation.NotEqual boolean_shape boolean_shape = Some boolean_shape
 relation_type _ _ _ = None
 
--- returns the type of an operand with an optional sign; a sign requires INTEGER
+-- returns the type of an operand with an optional sign; None for a sign before an operand that
+-- isn't INTEGER
 abbrev pub sign_type : Option Sign → Shape → Option Shape
 sign_type None s = Some s
 sign_type (Some sign.Plus) integer_shape = Some integer_shape
 sign_type (Some sign.Minus) integer_shape = Some integer_shape
 sign_type _ _ = None
 
--- returns the type of `~`, which requires BOOLEAN
+-- returns the type of `~` before an operand of this type; None unless the operand is BOOLEAN
 abbrev pub complement_type : Shape → Option Shape
 complement_type boolean_shape = Some boolean_shape
 complement_type _ = None
 
--- returns the type of a constant's value, INTEGER or BOOLEAN (rule 7)
+-- returns the type of a scalar value, INTEGER or BOOLEAN (rule 7); None for an array or record
 abbrev pub value_type : Value → Option Shape
 value_type (number n) = Some integer_shape
 value_type (truth b) = Some boolean_shape
@@ -67,12 +73,13 @@ object_type (Some (a_variable s)) = Some s
 object_type (Some (a_constant v)) = value_type v
 object_type _ = None
 
--- returns the type of an array's element; None unless there are an array and an INTEGER index
+-- returns the element type, given the type of the array and the type of the index; None unless
+-- these are an array type and INTEGER
 abbrev pub element_type : Shape → Shape → Option Shape
 element_type (array_shape k n s) integer_shape = Some s
 element_type _ _ = None
 
--- returns the type of the first field with this name; None if there is none
+-- returns the type of the first field with this name; None if there is no such field
 abbrev pub shape_of_field : FieldShapes → Name → Option Shape
 shape_of_field no_field_shape x = None
 shape_of_field (next_field_shape y s rest) x =
@@ -100,7 +107,7 @@ unfoldable mutual
     y ← sign_type s x
     type_of_addends meaning y rest
 
-  -- returns the type after further terms, which follow an operand of type `x`
+  -- returns the type of an operand of type `x` with further terms after it
   pub type_of_addends : {N P : Type 0}
       → Meanings N Shape P
       → Shape
@@ -118,7 +125,7 @@ unfoldable mutual
     x ← type_of_factor meaning f
     type_of_multipliers meaning x rest
 
-  -- returns the type after further factors, which follow an operand of type `x`
+  -- returns the type of an operand of type `x` with further factors after it
   pub type_of_multipliers : {N P : Type 0}
       → Meanings N Shape P
       → Shape
@@ -155,7 +162,8 @@ abbrev pub constant_of : {V P : Type 0} → Option (Object V P) → Option Value
 constant_of (Some (a_constant v)) = Some v
 constant_of _ = None
 
--- keeps only the constants among the meanings, as in constant expressions (rule 6)
+-- returns the meanings of names in constant expressions, where only constants have a meaning (rule
+-- 6)
 abbrev pub constants_only : {N V P W Q : Type 0} → Meanings N V P → Meanings N W Q
 constants_only meaning =
     record {
@@ -185,7 +193,8 @@ max_scalars = 65536
 abbrev pub max_depth : ℕ
 max_depth = 100
 
--- returns the length of an array, which is from 1 to 65,536; None for any other value
+-- returns the length of an array, given the value of its length expression; None if this isn't a
+-- number from 1 to 65,536
 abbrev pub array_length : Value → Option ℕ
 array_length (number (pos (suc n))) = if nat_lt n max_scalars then Some (suc n) else None
 array_length _ = None
@@ -220,7 +229,8 @@ abbrev mutual
   field_depth no_field_shape = 0
   field_depth (next_field_shape x s rest) = max (depth s) (field_depth rest)
 
--- returns the type if it has at most 65,536 scalars and is nested at most 100 deep, otherwise None
+-- returns the type if it has at most 65,536 scalars and its arrays and records are nested at most
+-- 100 deep, otherwise None
 abbrev pub within_limits : Shape → Option Shape
 within_limits s =
     if nat_le (scalars s) max_scalars && nat_le (depth s) max_depth then Some s else None
@@ -248,7 +258,8 @@ abbrev pub type_of_name : {V P : Type 0} → Option (Object V P) → Option Shap
 type_of_name (Some (a_type s)) = Some s
 type_of_name _ = None
 
--- adds fields that share one type before other fields
+-- returns the fields `rest` with fields of one type `s` put before them, one for each of these
+-- names
 abbrev pub with_fields : List Name → Shape → FieldShapes → FieldShapes
 with_fields [] s rest = rest
 with_fields (x ∷ xs) s rest = next_field_shape x s (with_fields xs s rest)
@@ -258,8 +269,8 @@ with_fields (x ∷ xs) s rest = next_field_shape x s (with_fields xs s rest)
 unfoldable mutual
   unfolding constant_value
 
-  -- returns the type that a text denotes: a name's type, or an array or a record within the limits, whose word has
-  -- ordinal `k`
+  -- returns the type that a written type denotes: a name's type, or an array or a record within the
+  -- limits; `k` is the ordinal of its first ARRAY or RECORD
   pub denoted : {N V P : Type 0} → Meanings N V P → ℕ → Tree N written_type → Option Shape
   denoted meaning k (named_type x) = type_of_name (meaning.object_for x)
   denoted meaning k (array_type e t) = do
@@ -272,7 +283,8 @@ unfoldable mutual
     fs ← denoted_group meaning (suc k) later g
     within_limits (record_shape k fs)
 
-  -- returns the fields of a group, followed by the later fields
+  -- returns the fields of a group, followed by the fields `later`; `k` is the ordinal of the first
+  -- ARRAY or RECORD in the group
   pub denoted_group : {N V P : Type 0}
       → Meanings N V P
       → ℕ
@@ -284,7 +296,8 @@ unfoldable mutual
     s ← denoted meaning k t
     Some (with_fields (map meaning.written (names_listed ns)) s later)
 
-  -- returns the fields of further groups, in text order
+  -- returns the fields of further groups, in text order; `k` is the ordinal of their first ARRAY or
+  -- RECORD
   pub denoted_groups : {N V P : Type 0}
       → Meanings N V P
       → ℕ

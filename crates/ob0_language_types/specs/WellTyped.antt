@@ -94,7 +94,8 @@ argument_fits meaning f e =
     agree (Some f.shape) (elim f.mode
     [ by_value ↦ type_of meaning e | by_place ↦ variable_type meaning (lone_designator e) ])
 
--- returns true if there are as many arguments as parameters, and each argument fits (rules 2 and 5)
+-- Returns true if there are as many arguments as parameters. Each argument must have the type and
+-- the form that its parameter requires (rules 2 and 5).
 unfoldable pub arguments_fit : {N P : Type 0}
     → Meanings N Shape P
     → Signature
@@ -105,7 +106,8 @@ arguments_fit meaning [] [] = true
 arguments_fit meaning (f ∷ fs) (e ∷ es) = argument_fits meaning f e && arguments_fit meaning fs es
 arguments_fit meaning _ _ = false
 
--- returns true if the name of a call means a procedure and the arguments fit
+-- returns true if there is a signature and the arguments match it; None stands for a name that
+-- isn't a procedure's
 unfoldable pub call_fits : {N P : Type 0}
     → Meanings N Shape P
     → Option Signature
@@ -120,8 +122,8 @@ unfoldable pub condition_fits : {N P : Type 0} → Meanings N Shape P → Tree N
 unfolding type_of
 condition_fits meaning e = agree (Some boolean_shape) (type_of meaning e)
 
--- Returns true if a statement is well-typed: both sides of an assignment have one type, the arguments of a call fit,
--- and conditions are BOOLEAN.
+-- Returns true if a statement is well-typed: both sides of an assignment have one type, the
+-- arguments of a call match its parameters, and conditions are BOOLEAN.
 unfoldable mutual
   unfolding condition_fits call_fits
 
@@ -161,7 +163,7 @@ unfoldable mutual
   else_fits meaning none = true
   else_fits meaning (one (else_branch statements)) = sequence_fits meaning statements
 
--- binds several names to one object
+-- returns the environment with each of these names bound to the same object
 abbrev pub bind_names : {N V P : Type 0}
     → List N
     → Object V P
@@ -170,7 +172,8 @@ abbrev pub bind_names : {N V P : Type 0}
 bind_names [] o env = env
 bind_names (x ∷ xs) o env = bind_names xs o ((x, o) ∷ env)
 
--- binds variables, each group after its type; None if a type has an error
+-- Returns the environment with variables added, each group after its type. `k` is the ordinal of
+-- the first ARRAY or RECORD. Returns None if a type has an error.
 unfoldable pub declare_typed : {N : Type 0}
     → Naming N
     → ℕ
@@ -188,8 +191,9 @@ pub record TypedParameter (N : Type 0) : Type 0 where
   pub name : N
   pub formal : Formal
 
--- Returns the parameters of a heading. Each section of parameters is visible after its type, and the procedure isn't
--- visible yet. Returns None if a type has an error.
+-- Returns the parameters of a heading. The names of a section are visible in the later sections,
+-- and the procedure isn't visible yet. `k` is the ordinal of the first ARRAY or RECORD. Returns
+-- None if a type has an error.
 unfoldable pub typed_parameters : {N : Type 0}
     → Naming N
     → TypeEnvironment N
@@ -206,7 +210,7 @@ typed_parameters naming env k (more (then_section f) fs) = do
       (section_names f)
       ++ rest)
 
--- binds parameters as variables (rule 4)
+-- returns the environment with these parameters bound as variables (rule 4)
 abbrev pub bind_typed : {N : Type 0}
     → List (TypedParameter N)
     → TypeEnvironment N
@@ -214,7 +218,7 @@ abbrev pub bind_typed : {N : Type 0}
 bind_typed [] env = env
 bind_typed (p ∷ ps) env = bind_typed ps ((p.name, a_variable p.formal.shape) ∷ env)
 
--- binds a procedure to the modes and types of its parameters
+-- returns the environment with the procedure `x` bound to the modes and types of its parameters
 abbrev pub heading : {N : Type 0}
     → N
     → List (TypedParameter N)
@@ -222,13 +226,13 @@ abbrev pub heading : {N : Type 0}
     → TypeEnvironment N
 heading x ps env = (x, a_procedure (map (λ p. p.formal) ps)) ∷ env
 
--- returns true if the statements of a body are well-typed
+-- returns true if the statements of a body are well-typed; a missing body is well-typed
 unfoldable pub body_fits : {N : Type 0} → Naming N → TypeEnvironment N → Tree N (maybe body) → Bool
 unfolding statement_fits
 body_fits naming env none = true
 body_fits naming env (one (begins statements)) = sequence_fits (meanings naming env) statements
 
--- returns true if a value exists and passes a test
+-- returns true if there is a value and it passes the test
 abbrev pub some_and : {A : Type 0} → Option A → (A → Bool) → Bool
 some_and None test = false
 some_and (Some a) test = test a
@@ -248,8 +252,8 @@ unfoldable mutual
       (λ inner. procedures_fit naming inner
       (after_variables k (has_body (declares cs ts vs ps) statements)) statements ps)
 
-  -- returns true if each procedure is well-typed in the environment of the earlier ones, and then the statements of the
-  -- block are
+  -- returns true if each procedure is well-typed in the environment of the earlier ones, and then
+  -- the statements of their block are; `k` is the ordinal of their first ARRAY or RECORD
   pub procedures_fit : {N : Type 0}
       → Naming N
       → TypeEnvironment N
@@ -264,7 +268,8 @@ unfoldable mutual
       && procedures_fit naming (heading (procedure_name p) ps env) (k + procedure_constructors p)
       statements rest)
 
-  -- returns true if a procedure's block is well-typed, in an environment with the procedure's name and parameters
+  -- returns true if a procedure's block is well-typed, in an environment with the procedure's name
+  -- and parameters; `k` is the ordinal of the procedure's first ARRAY or RECORD
   pub procedure_fits : {N : Type 0}
       → Naming N
       → TypeEnvironment N

@@ -8,8 +8,8 @@ use Rattle.ob0_scan.specs.Classes.{max_integer}
 use Rattle.ob0_language_names.specs.Names.{Name}
 use Rattle.ob0_language_values.specs.Values.{Value, number, truth}
 
--- Writes a number as its digits, in parentheses if it is negative. The least number is written as `-2147483647 - 1` in
--- parentheses, because its digits are too large for a literal.
+-- Returns a number as a factor: its digits, or an expression in parentheses if it is negative. The
+-- least number is written as `-2147483647 - 1`, because its digits are too large for a literal.
 abbrev pub written_number : ℤ → Tree Name factor
 written_number (pos n) = integer n
 written_number (negsuc n) =
@@ -19,7 +19,7 @@ written_number (negsuc n) =
     else parenthesised (compares (sum (Some sign.Minus) (product (integer max_integer) end)
     (more (adds add_operator.Subtract (product (integer 1) end)) end)) none)
 
--- writes a constant's value as a factor; None if it is neither a number nor a truth value
+-- returns a constant's value as a factor; None if it is neither a number nor a truth value
 abbrev pub written_value : Value → Option (Tree Name factor)
 written_value (number n) = Some (written_number n)
 written_value (truth true) = Some (designator (codes "TRUE") end)

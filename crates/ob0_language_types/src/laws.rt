@@ -8,13 +8,14 @@ pub fn fits_by_ordinal()
     ensures { FitsByOrdinal }
 {}
 
-/// Proves that two modules with the same numbered tree are both well-typed or neither is. Each of them must declare
-/// every name once and have the right closing names.
+/// Proves that two modules with the same numbered tree are both well-typed or neither is. Each of them must declare no
+/// name twice in a block or record, and have the right closing names.
 pub fn well_typed_by_shape()
     ensures { WellTypedByShape }
 {}
 
-/// Proves that a constant expression has the same value in a run as in the checker.
+/// Proves that a constant expression has the same value in a run as in the checker, if its names mean the same
+/// constants in both.
 pub fn constants_evaluate()
     ensures { ConstantsEvaluate }
 {}

@@ -2,17 +2,18 @@
 -- Rule: docs/LANGUAGE.md, Runs 3.
 use Rattle.std.specs.Prelude.{ℕ, zero, suc, ◌-◌, ◌/◌, ◌%◌, ℤ, pos, negsuc, Option, Some, None}
 
--- returns the result of DIV, which rounds down if the divisor is positive
+-- returns the result of DIV with the divisor `b`, which is rounded down; `b` must be above 0
 abbrev pub quotient : ℤ → ℕ → ℤ
 quotient (pos a) b = pos (a / b)
 quotient (negsuc a) b = negsuc (a / b)
 
--- returns the result of MOD, which is never negative if the divisor is positive
+-- returns the result of MOD with the divisor `b`, which is never negative; `b` must be above 0
 abbrev pub remainder : ℤ → ℕ → ℤ
 remainder (pos a) b = pos (a % b)
 remainder (negsuc a) b = pos (b - suc (a % b))
 
--- returns the result of a division, or None if the divisor is below 1
+-- returns a quotient or remainder, computed by the function `result`; None if the divisor is below
+-- 1
 abbrev pub divided : (ℤ → ℕ → ℤ) → ℤ → ℤ → Option ℤ
 divided result a (pos zero) = None
 divided result a (pos (suc b)) = Some (result a (suc b))

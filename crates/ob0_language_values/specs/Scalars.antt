@@ -1,4 +1,5 @@
--- The values of the definitions for the code's scalars and for the results of its operations.
+-- The views of the code's scalars, and of the results of its operations, as values of the
+-- definitions.
 -- Rule: none; for contracts: what values of the code mean.
 use Rattle.std.specs.Prelude.{ℤ, Some, None, Ok, Err, Option, Result}
 use Rattle.ob0_language_values.specs.declared.scalar.OperatorFault.{OperatorFault}

@@ -52,12 +52,13 @@ mutual
 pub data End : Type 0 where
   Done Overflow Divisor Index InputEnd CallBound TurnBound Stuck : End
 
--- the outcome of a step: a result, or the end of the run
+-- the outcome of an evaluation: a result, or the end of the run
 pub data Outcome (A : Type 0) : Type 0 where
   gives : A → Outcome A
   ends : End → Outcome A
 
--- runs one evaluation after another; if the first one ends the run, the second one isn't made
+-- applies `next` to the result of an evaluation; if the evaluation ends the run, `next` isn't
+-- evaluated
 abbrev pub ◌>>=◌ : {A B : Type 0} → Outcome A → (A → Outcome B) → Outcome B
 ◌>>=◌ (gives a) next = next a
 ◌>>=◌ (ends e) next = ends e
@@ -67,7 +68,7 @@ abbrev pub or_stuck : {A : Type 0} → Option A → Outcome A
 or_stuck None = ends Stuck
 or_stuck (Some a) = gives a
 
--- returns true if a number fits in 32 bits
+-- returns true if a number fits in 32 bits with a sign
 abbrev pub fits : ℤ → Bool
 fits (pos n) = nat_lt n (2 ^ 31)
 fits (negsuc n) = nat_lt n (2 ^ 31)
@@ -76,7 +77,7 @@ fits (negsuc n) = nat_lt n (2 ^ 31)
 abbrev pub in_range : ℤ → Outcome Value
 in_range n = if fits n then gives (number n) else ends Overflow
 
--- gives the result of a division, Divisor if there is none, or Overflow if it doesn't fit in 32 bits
+-- gives the quotient or remainder, or Overflow if it doesn't fit in 32 bits; Divisor for None
 abbrev pub divided_by : Option ℤ → Outcome Value
 divided_by None = ends Divisor
 divided_by (Some n) = in_range n
@@ -96,12 +97,14 @@ multiply multiply_operator.Modulo (number a) (number b) = divided_by (divided re
 multiply multiply_operator.And (truth a) (truth b) = gives (truth (a && b))
 multiply _ _ _ = ends Stuck
 
--- returns true if the left operand makes `a OR b` TRUE, so that `b` isn't evaluated
+-- returns true if the operator is OR and the left operand is TRUE, so that the right operand isn't
+-- evaluated
 abbrev pub add_is_settled : AddOperator → Value → Bool
 add_is_settled add_operator.Or (truth true) = true
 add_is_settled _ _ = false
 
--- returns true if the left operand makes `a & b` FALSE, so that `b` isn't evaluated
+-- returns true if the operator is `&` and the left operand is FALSE, so that the right operand
+-- isn't evaluated
 abbrev pub multiply_is_settled : MultiplyOperator → Value → Bool
 multiply_is_settled multiply_operator.And (truth false) = true
 multiply_is_settled _ _ = false
@@ -120,14 +123,16 @@ compare_numbers relation.LessEqual a b = int_le a b
 compare_numbers relation.Greater a b = int_lt b a
 compare_numbers relation.GreaterEqual a b = int_le b a
 
--- returns the truth value of a relation between two numbers, or with `=` or `#` between two truth values
+-- returns the truth value of a relation between two numbers, or with `=` or `#` between two truth
+-- values; stuck for other operands
 abbrev pub relate : Relation → Value → Value → Outcome Value
 relate r (number a) (number b) = gives (truth (compare_numbers r a b))
 relate relation.Equal (truth a) (truth b) = gives (truth (same_truth a b))
 relate relation.NotEqual (truth a) (truth b) = gives (truth (not (same_truth a b)))
 relate _ _ _ = ends Stuck
 
--- returns the result of an optional sign before a value
+-- returns the result of an optional sign before a value; a sign before anything but a number is
+-- stuck
 abbrev pub apply_sign : Option Sign → Value → Outcome Value
 apply_sign None v = gives v
 apply_sign (Some sign.Plus) (number a) = in_range a
@@ -153,53 +158,57 @@ pub record Place : Type 0 where
 abbrev pub Store : Type 0
 Store = List Value
 
--- returns the element at index `n`; None if there is none
+-- returns the element at index `n`; None if there is no such element
 abbrev pub nth_value : Values → ℕ → Option Value
 nth_value no_value n = None
 nth_value (next_value v rest) zero = Some v
 nth_value (next_value v rest) (suc n) = nth_value rest n
 
--- returns the elements with the one at index `n` replaced
+-- returns the elements with the element at index `n` replaced by `new`; unchanged if there is no
+-- such element
 abbrev pub with_nth_value : Values → ℕ → Value → Values
 with_nth_value no_value n new = no_value
 with_nth_value (next_value v rest) zero new = next_value new rest
 with_nth_value (next_value v rest) (suc n) new = next_value v (with_nth_value rest n new)
 
--- returns the first member with this name; None if there is none
+-- returns the value of the first member with this name; None if there is no such member
 abbrev pub named_member : Members → Name → Option Value
 named_member no_member x = None
 named_member (next_member y v rest) x = if same_name x y then Some v else named_member rest x
 
--- returns the members with the first one of this name replaced
+-- returns the members with the value of the first one with this name replaced by `new`; unchanged
+-- if there is no such member
 abbrev pub with_named_member : Members → Name → Value → Members
 with_named_member no_member x new = no_member
 with_named_member (next_member y v rest) x new =
     if same_name x y then next_member y new rest else next_member y v (with_named_member rest x new)
 
--- returns the part of a value that one step of a path selects; None if there is none
+-- returns the part of a value that one step of a path selects; None if there is no such part
 abbrev pub part : Value → Step → Option Value
 part (elements vs) (at_index i) = nth_value vs i
 part (members k ms) (at_field x) = named_member ms x
 part _ _ = None
 
--- returns a value in which the part that one step selects is replaced
+-- returns a value with the part that one step selects replaced by `new`; unchanged if there is no
+-- such part
 abbrev pub with_part : Value → Step → Value → Value
 with_part (elements vs) (at_index i) new = elements (with_nth_value vs i new)
 with_part (members k ms) (at_field x) new = members k (with_named_member ms x new)
 with_part v _ new = v
 
--- returns the part of a value that a path selects; None if there is none
+-- returns the part of a value that a path selects; None if there is no such part
 abbrev pub at_path : List Step → Value → Option Value
 at_path [] v = Some v
 at_path (s ∷ path) v = option_and_then (at_path path) (part v s)
 
--- returns a value in which the part that a path selects is replaced; None if there is no such part
+-- returns the value `v` with the part that a path selects replaced by `new`; None if there is no
+-- such part
 abbrev pub with_at_path : List Step → Value → Value → Option Value
 with_at_path [] new v = Some new
 with_at_path (s ∷ path) new v =
     option_and_then (λ old. option_map (with_part v s) (with_at_path path new old)) (part v s)
 
--- returns the value at a place; None if there is none
+-- returns the value at a place; None if there is no such place
 abbrev pub read_place : Store → Place → Option Value
 read_place store p = option_and_then (at_path p.path) (slice_get store p.variable)
 
@@ -219,16 +228,16 @@ abbrev pub copies : ℕ → Value → Values
 copies zero v = no_value
 copies (suc n) v = next_value v (copies n v)
 
--- Returns the first value of a variable: 0 or FALSE in each of its parts.
+-- Returns the initial value of a variable: 0 or FALSE in each of its parts.
 abbrev mutual
-  -- returns the first value of a variable of this type
+  -- returns the initial value of a variable of this type
   pub initial : Shape → Value
   initial integer_shape = number (pos 0)
   initial boolean_shape = truth false
   initial (array_shape k n element) = elements (copies n (initial element))
   initial (record_shape k fs) = members k (initial_members fs)
 
-  -- returns the first values of a record's fields
+  -- returns the initial members of a record variable with these fields
   pub initial_members : FieldShapes → Members
   initial_members no_field_shape = no_member
   initial_members (next_field_shape x s rest) = next_member x (initial s) (initial_members rest)

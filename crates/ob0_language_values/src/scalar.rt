@@ -26,7 +26,7 @@ pub enum OperatorFault {
     Operand,
 }
 
-/// Returns the number as a scalar. Returns `Overflow` if there is none, because it doesn't fit in 32 bits.
+/// Returns the number as a scalar, or `Overflow` for None, which means that the number doesn't fit in 32 bits.
 fn in_range(number: Option<i32>) -> Result<Scalar, OperatorFault>
     ensures { scalar_outcome result ≡ number_outcome number }
 {
@@ -36,7 +36,7 @@ fn in_range(number: Option<i32>) -> Result<Scalar, OperatorFault>
     }
 }
 
-/// Returns the result of a division as a scalar. Returns `Divisor` if there is none, because the divisor is below 1.
+/// Returns the result of a division as a scalar, or `Divisor` for None, which means that the divisor is below 1.
 fn of_division(number: Option<i32>) -> Result<Scalar, OperatorFault>
     ensures { scalar_outcome result ≡ divided_by number }
 {
@@ -81,6 +81,7 @@ pub fn add(operator: AddOperator, left: Scalar, right: Scalar) -> Result<Scalar,
     }
 }
 
+/// Returns `a + b` or `a - b`. Returns `Overflow` if it doesn't fit in 32 bits, and `Operand` for OR.
 fn add_numbers(operator: AddOperator, a: i32, b: i32) -> Result<Scalar, OperatorFault>
     ensures { scalar_outcome result ≡ add operator (number a) (number b) }
 {
@@ -91,6 +92,7 @@ fn add_numbers(operator: AddOperator, a: i32, b: i32) -> Result<Scalar, Operator
     }
 }
 
+/// Returns `a OR b`. Returns `Operand` for `+` and `-`.
 fn add_truths(operator: AddOperator, a: bool, b: bool) -> Result<Scalar, OperatorFault>
     ensures { scalar_outcome result ≡ add operator (truth a) (truth b) }
 {
@@ -127,6 +129,7 @@ pub fn multiply(
     }
 }
 
+/// Returns `a * b`, `a DIV b` or `a MOD b`, with the errors of `multiply`. Returns `Operand` for `&`.
 fn multiply_numbers(operator: MultiplyOperator, a: i32, b: i32) -> Result<Scalar, OperatorFault>
     ensures { scalar_outcome result ≡ multiply operator (number a) (number b) }
 {
@@ -138,6 +141,7 @@ fn multiply_numbers(operator: MultiplyOperator, a: i32, b: i32) -> Result<Scalar
     }
 }
 
+/// Returns `a & b`. Returns `Operand` for `*`, DIV and MOD.
 fn multiply_truths(operator: MultiplyOperator, a: bool, b: bool) -> Result<Scalar, OperatorFault>
     ensures { scalar_outcome result ≡ multiply operator (truth a) (truth b) }
 {
@@ -149,7 +153,7 @@ fn multiply_truths(operator: MultiplyOperator, a: bool, b: bool) -> Result<Scala
     }
 }
 
-/// Returns true if the left operand makes `left OR right` TRUE, so that the right operand isn't evaluated.
+/// Returns true if the operator is OR and the left operand is TRUE, so that the right operand isn't evaluated.
 pub fn add_is_settled(operator: AddOperator, left: Scalar) -> bool
     ensures { result ≡ add_is_settled operator (scalar_value left) }
 {
@@ -163,7 +167,7 @@ pub fn add_is_settled(operator: AddOperator, left: Scalar) -> bool
     }
 }
 
-/// Returns true if the left operand makes `left & right` FALSE, so that the right operand isn't evaluated.
+/// Returns true if the operator is `&` and the left operand is FALSE, so that the right operand isn't evaluated.
 pub fn multiply_is_settled(operator: MultiplyOperator, left: Scalar) -> bool
     ensures { result ≡ multiply_is_settled operator (scalar_value left) }
 {
@@ -198,6 +202,7 @@ pub fn relate(relation: Relation, left: Scalar, right: Scalar) -> Result<Scalar,
     }
 }
 
+/// Returns true if the relation holds between the two numbers.
 fn compare(relation: Relation, a: i32, b: i32) -> bool
     ensures { result ≡ compare_numbers relation a b }
 {
@@ -211,6 +216,7 @@ fn compare(relation: Relation, a: i32, b: i32) -> bool
     }
 }
 
+/// Returns the truth value of `a = b` or `a # b`. Returns `Operand` for any other relation.
 fn relate_truths(relation: Relation, a: bool, b: bool) -> Result<Scalar, OperatorFault>
     ensures { scalar_outcome result ≡ relate relation (truth a) (truth b) }
 {

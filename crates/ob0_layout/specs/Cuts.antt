@@ -1,4 +1,4 @@
--- Defines the values that the code computes while it visits the gaps of a text.
+-- The values that the code computes while it visits the gaps of a text.
 -- Rule: none; for private contracts: gaps as cuts of bytes, and runs of a byte.
 use Rattle.std.specs.Prelude.{◌≤◌, ℕ, Bool, true, ◌&&◌, ◌==◌, if◌then◌else◌, nat_lt, Option, Some, None, List, [], ◌∷◌, filter}
 use Rattle.ob0_scan.specs.declared.lexeme.LexemeKind.{LexemeKind}
@@ -24,17 +24,19 @@ next_of (t ∷ ts) [] = Some (next.Token t)
 next_of (t ∷ ts) (c ∷ cs) =
     if nat_lt c.start t.span.start then Some (next.Comment c) else Some (next.Token t)
 
--- returns the gap before a token or comment, which is empty at the start of the text
+-- returns the gap between a token or comment and the next one, with this kind and role; it is empty
+-- at the start of the text (None)
 abbrev pub gap_before : Option Solid → LexemeKind → LineRole → Gap
 gap_before None kind role = Nothing
 gap_before (Some b) kind role = gap_between b.kind b.role kind role
 
 -- returns the gap after the last token or comment: a line feed, or nothing if the text has neither
+-- (None)
 abbrev pub last_gap : Option Solid → Gap
 last_gap None = Nothing
 last_gap (Some b) = Line 0
 
--- returns the replacement of a gap by its text after formatting
+-- returns a gap as a cut, which replaces it by its text after formatting
 abbrev pub gap_cut : Indent → GapSite → Cut
 gap_cut indent g = record { from = g.start; to = g.end; new = gap_text indent g.gap }
 
@@ -42,12 +44,12 @@ gap_cut indent g = record { from = g.start; to = g.end; new = gap_text indent g.
 abbrev pub changed_sites : Indent → List ℕ → List GapSite → List GapSite
 changed_sites indent text gs = filter (λ (g : GapSite). is_changed text (gap_cut indent g)) gs
 
--- states that a gap lies in a text of this length, in bytes
+-- holds if a gap lies in a text of this length in bytes
 pub record LiesIn (len : ℕ) (g : GapSite) : Type 0 where
   pub ordered : g.start ≤ g.end
   pub within : g.end ≤ len
 
--- true if each of these bytes is b
+-- returns true if each of these bytes is `b`
 abbrev pub all_are : ℕ → List ℕ → Bool
 all_are b [] = true
 all_are b (c ∷ cs) = (c == b) && all_are b cs

@@ -1,4 +1,4 @@
--- Defines the roles of a tree's tokens in their lines.
+-- The roles of a tree's tokens in their lines.
 -- Rule: docs/LANGUAGE.md, Layout 2 to 4.
 use Rattle.std.specs.Prelude.{ℕ, ◌+◌, min, Bool, true, false, Option, Some, None, List, [], ◌∷◌, ◌++◌}
 use Rattle.ob0_tree.specs.declared.tree.Sign.{Sign}
@@ -6,12 +6,12 @@ use Rattle.ob0_tree.specs.Tree.{Sort, Tree, none, one, end, more, compares, rela
 use Rattle.ob0_layout.specs.declared.line_role.LineRole.{LineRole}
 use Rattle.ob0_layout.specs.declared.line_role.LineRole.TheVariants.{Begins, Opening, Joining, Plain}
 
--- Returns the next level. Levels are 32-bit numbers; a module's levels are far below the greatest
--- one.
+-- Returns the next level, which is at most 2^32 - 1. A module's levels are far below that.
 abbrev pub deeper : ℕ → ℕ
 deeper k = min (k + 1) 4294967295
 
--- returns the roles of some tokens if the first of them begins a line of this level
+-- returns the roles of some tokens with the first role replaced, so that the first token begins a
+-- line of this level
 abbrev pub in_line : ℕ → List LineRole → List LineRole
 in_line level [] = []
 in_line level (s ∷ ss) = Begins level ∷ ss
@@ -21,7 +21,8 @@ abbrev pub sign_role : Option Sign → List LineRole
 sign_role None = []
 sign_role (Some s) = Joining ∷ []
 
--- returns the role of the separator before an item of a list; the first item has none
+-- returns the role of the separator before an item of a list; if the Bool is true, the item is the
+-- first one, and there is none
 abbrev pub separated : Bool → List LineRole
 separated true = []
 separated false = Plain ∷ []

@@ -102,12 +102,14 @@ fn edits<T: TextStore>(
     Ok(edits)
 }
 
+/// Returns the byte offset at which each gap starts, in order.
 fn starts(alloc: Global, sites: &[GapSite]) -> Result<Vec<usize>, AllocError>
     ensures { IfOk result (λ offsets. offsets.items ≡ map (λ site. site.start) sites.now) }
 {
     sites.iter().map(|site| site.start).collect(alloc)
 }
 
+/// Returns the byte offset at which each gap ends, in order.
 fn ends(alloc: Global, sites: &[GapSite]) -> Result<Vec<usize>, AllocError>
     ensures { IfOk result (λ offsets. offsets.items ≡ map (λ site. site.end) sites.now) }
 {

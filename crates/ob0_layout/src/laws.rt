@@ -14,8 +14,8 @@ ghost use Rattle.ob0_layout.specs.Layout.{solid, laid_out, layout};
 ghost use Rattle.ob0_layout.specs.Gaps.{IsWhite, all_gaps, changed_gaps, laid_len};
 ghost use Rattle.ob0_layout.specs.LineRoles.{line_roles};
 
-/// Proves that a formatted text is cut into the formatted lexemes, and has the same tokens and
-/// comments as the original.
+/// Proves that a formatted text is cut into the formatted lexemes. It has the same tokens and comments as the original
+/// text.
 pub fn lexemes_stay()
     ensures lexed { (indent : Indent) (s : Scanned) (scan : IsScan s)
         (tree : Tree (List ℕ) module_text)
@@ -27,7 +27,7 @@ pub fn lexemes_stay()
         → solid (laid_out indent tree scan.lexemes) ≡ solid scan.lexemes }
 {}
 
-/// Proves that a formatted text, once it is scanned, is a text of the same module.
+/// Proves that a formatted text is a text of the same module as the original text.
 pub fn module_stays()
     ensures { (indent : Indent) (s : Scanned) (scan : IsScan s) (tree : Tree (List ℕ) module_text)
         → ModuleOf s tree

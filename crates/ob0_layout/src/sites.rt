@@ -135,7 +135,8 @@ fn next_of(left: &[Token], comments: &[Span]) -> Option<NextLexeme>
     }
 }
 
-/// Returns the gap before a token or comment, which is empty at the start of the text.
+/// Returns the gap between `before` and a token or comment of this kind and role. It is empty if `before` is None, at
+/// the start of the text.
 fn gap_before(before: Option<Solid>, kind: LexemeKind, role: LineRole) -> Gap
     ensures { result ≡ gap_before before kind role }
 {
@@ -145,8 +146,8 @@ fn gap_before(before: Option<Solid>, kind: LexemeKind, role: LineRole) -> Gap
     }
 }
 
-/// Returns the gap after the last token or comment: a line feed, or nothing if the text has
-/// neither.
+/// Returns the gap after `before`, the last token or comment: a line feed, or nothing if `before` is None because the
+/// text has neither.
 fn last_gap(before: Option<Solid>) -> Gap
     ensures { result ≡ last_gap before }
 {
@@ -156,7 +157,8 @@ fn last_gap(before: Option<Solid>) -> Gap
     }
 }
 
-/// Returns the level of the line that the next token is in, or 0 if no token follows.
+/// Returns the level of the line that the next token is in, or 0 if no token follows. `level` is the level of the
+/// current line.
 fn next_line(level: u32, roles: &[LineRole]) -> u32
     ensures { result ≡ next_line level roles.now }
 {
@@ -171,6 +173,7 @@ fn next_line(level: u32, roles: &[LineRole]) -> u32
     }
 }
 
+/// Returns the role of the next token, or Plain if no token follows.
 fn next_role(roles: &[LineRole]) -> LineRole
     ensures { result ≡ next_role roles.now }
 {
@@ -190,7 +193,7 @@ fn after_first<T>(items: &[T]) -> &[T]
     &items[1..]
 }
 
-/// Returns the role of a comment, which begins a line if a line break comes before it.
+/// Returns the role of a comment. If a line break comes before it, it begins a line of this level.
 fn comment_role(broken: bool, level: u32) -> LineRole
     ensures { result ≡ comment_role broken level }
 {
@@ -201,7 +204,7 @@ fn comment_role(broken: bool, level: u32) -> LineRole
     }
 }
 
-/// Returns true if a gap has a line break. The start of the text counts as a line break.
+/// Returns true if a gap has a line break, or is at the start of the text (`before` is None).
 fn begins_line(before: Option<Solid>, gap: &[u8]) -> bool
     ensures { result ≡ (is_none before || has_break gap.now) }
 {

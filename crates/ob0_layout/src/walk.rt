@@ -1,4 +1,4 @@
-//! Visits a module and gives each of its tokens its role in a line.
+//! Visits a module and gives each of its tokens its role in its line.
 
 ghost use Rattle.std.specs.Prelude.{◌≡◌, ◌++◌, ◌∷◌, [], IfOk};
 ghost use Rattle.ob0_layout.specs.declared.line_role.LineRole.TheVariants.{Begins, Plain};
@@ -45,6 +45,7 @@ fn plain(out: &mut Vec<LineRole>) -> Result<(), AllocError>
     Ok(())
 }
 
+/// Appends the roles of an expression's tokens.
 #[cycle(expressions)]
 fn expression(out: &mut Vec<LineRole>, e: &Expression) -> Result<(), AllocError>
     ensures { IfOk result
@@ -56,6 +57,7 @@ fn expression(out: &mut Vec<LineRole>, e: &Expression) -> Result<(), AllocError>
     }
 }
 
+/// Appends the roles of the tokens of an expression that isn't a single factor.
 #[cycle(expressions)]
 fn compound(out: &mut Vec<LineRole>, c: &Compound) -> Result<(), AllocError>
     ensures { IfOk result (λ _. out.new.items ≡ out.old.items ++ line_roles 0 (compound_of c.now)) }
@@ -68,6 +70,7 @@ fn compound(out: &mut Vec<LineRole>, c: &Compound) -> Result<(), AllocError>
     Ok(())
 }
 
+/// Appends the role of a sign, if there is one.
 fn sign(out: &mut Vec<LineRole>, sign: Option<Sign>) -> Result<(), AllocError>
     ensures { IfOk result (λ _. out.new.items ≡ out.old.items ++ sign_role sign) }
 {
@@ -77,6 +80,7 @@ fn sign(out: &mut Vec<LineRole>, sign: Option<Sign>) -> Result<(), AllocError>
     Ok(())
 }
 
+/// Appends the roles of a simple expression's tokens.
 #[cycle(expressions)]
 fn simple(out: &mut Vec<LineRole>, s: &Simple) -> Result<(), AllocError>
     ensures { IfOk result (λ _. out.new.items ≡ out.old.items ++ line_roles 0 (simple_of s.now)) }
@@ -90,6 +94,7 @@ fn simple(out: &mut Vec<LineRole>, s: &Simple) -> Result<(), AllocError>
     Ok(())
 }
 
+/// Appends the roles of a term's tokens.
 #[cycle(expressions)]
 fn term(out: &mut Vec<LineRole>, t: &Term) -> Result<(), AllocError>
     ensures { IfOk result (λ _. out.new.items ≡ out.old.items ++ line_roles 0 (term_of t.now)) }
@@ -102,6 +107,7 @@ fn term(out: &mut Vec<LineRole>, t: &Term) -> Result<(), AllocError>
     Ok(())
 }
 
+/// Appends the roles of a factor's tokens.
 #[cycle(expressions)]
 fn factor(out: &mut Vec<LineRole>, f: &Factor) -> Result<(), AllocError>
     ensures { IfOk result (λ _. out.new.items ≡ out.old.items ++ line_roles 0 (factor_of f.now)) }
@@ -121,6 +127,7 @@ fn factor(out: &mut Vec<LineRole>, f: &Factor) -> Result<(), AllocError>
     }
 }
 
+/// Appends the roles of the tokens of a name with its selectors.
 #[cycle(expressions)]
 fn designator(out: &mut Vec<LineRole>, d: &Designator) -> Result<(), AllocError>
     ensures { IfOk result
@@ -133,6 +140,7 @@ fn designator(out: &mut Vec<LineRole>, d: &Designator) -> Result<(), AllocError>
     Ok(())
 }
 
+/// Appends the roles of a selector's tokens.
 #[cycle(expressions)]
 fn selector(out: &mut Vec<LineRole>, s: &Selector) -> Result<(), AllocError>
     ensures { IfOk result (λ _. out.new.items ≡ out.old.items ++ line_roles 0 (selector_of s.now)) }
@@ -179,6 +187,7 @@ fn sequence(
     Ok(())
 }
 
+/// Appends the roles of a statement of this level, whose first token begins a line.
 #[cycle(statements)]
 fn statement(out: &mut Vec<LineRole>, level: u32, s: &Statement) -> Result<(), AllocError>
     ensures { IfOk result
@@ -213,6 +222,7 @@ fn begin(out: &mut Vec<LineRole>, level: u32) -> Result<(), AllocError>
     Ok(())
 }
 
+/// Appends the roles of an assignment of this level.
 fn assignment(out: &mut Vec<LineRole>, level: u32, a: &Assignment) -> Result<(), AllocError>
     ensures { IfOk result
         (λ _. out.new.items ≡ out.old.items ++ line_roles level (assignment_of a.now)) }
@@ -225,6 +235,7 @@ fn assignment(out: &mut Vec<LineRole>, level: u32, a: &Assignment) -> Result<(),
     expression(out, &a.value)
 }
 
+/// Appends the roles of a call of this level.
 fn call(out: &mut Vec<LineRole>, level: u32, c: &Call) -> Result<(), AllocError>
     ensures { IfOk result (λ _. out.new.items ≡ out.old.items ++ line_roles level (call_of c.now)) }
 {
@@ -235,6 +246,7 @@ fn call(out: &mut Vec<LineRole>, level: u32, c: &Call) -> Result<(), AllocError>
     }
 }
 
+/// Appends the roles of the parentheses and arguments of a call.
 fn arguments(out: &mut Vec<LineRole>, given: &Vec<Expression>) -> Result<(), AllocError>
     ensures { IfOk result
         (λ _. out.new.items ≡ out.old.items ++ line_roles 0 (arguments_in given.now)) }
@@ -249,6 +261,7 @@ fn arguments(out: &mut Vec<LineRole>, given: &Vec<Expression>) -> Result<(), All
     plain(out)
 }
 
+/// Appends the roles of an IF statement of this level. The statements in it are one level deeper.
 #[cycle(statements)]
 fn branches(out: &mut Vec<LineRole>, level: u32, i: &If) -> Result<(), AllocError>
     ensures { IfOk result (λ _. out.new.items ≡ out.old.items ++ line_roles level (if_of i.now)) }
@@ -268,6 +281,7 @@ fn branches(out: &mut Vec<LineRole>, level: u32, i: &If) -> Result<(), AllocErro
     }
 }
 
+/// Appends the roles of the ELSIF parts of an IF statement of this level.
 #[cycle(statements)]
 fn elsifs(out: &mut Vec<LineRole>, level: u32, parts: &Vec<Elsif>) -> Result<(), AllocError>
     ensures { IfOk result
@@ -295,6 +309,7 @@ fn names(out: &mut Vec<LineRole>, first: LineRole, ns: &Names) -> Result<(), All
     Ok(())
 }
 
+/// Appends the roles of a written type's tokens.
 #[cycle(types)]
 fn written_type(out: &mut Vec<LineRole>, t: &WrittenType) -> Result<(), AllocError>
     ensures { IfOk result (λ _. out.new.items ≡ out.old.items ++ line_roles 0 (type_of t.now)) }
@@ -311,6 +326,7 @@ fn written_type(out: &mut Vec<LineRole>, t: &WrittenType) -> Result<(), AllocErr
     }
 }
 
+/// Appends the roles of a record type's tokens.
 #[cycle(types)]
 fn record(out: &mut Vec<LineRole>, r: &RecordType) -> Result<(), AllocError>
     ensures { IfOk result (λ _. out.new.items ≡ out.old.items ++ line_roles 0 (record_in r.now)) }
@@ -325,6 +341,7 @@ fn record(out: &mut Vec<LineRole>, r: &RecordType) -> Result<(), AllocError>
     plain(out)
 }
 
+/// Appends the roles of the tokens of a group of fields, which may be empty.
 #[cycle(types)]
 fn fields(out: &mut Vec<LineRole>, f: &Fields) -> Result<(), AllocError>
     ensures { IfOk result (λ _. out.new.items ≡ out.old.items ++ line_roles 0 (fields_of f.now)) }
@@ -339,6 +356,7 @@ fn fields(out: &mut Vec<LineRole>, f: &Fields) -> Result<(), AllocError>
     }
 }
 
+/// Appends the roles of formal parameters with their parentheses, if there are any.
 fn formals(out: &mut Vec<LineRole>, sections: &Option<Vec<Section>>) -> Result<(), AllocError>
     ensures { IfOk result
         (λ _. out.new.items ≡ out.old.items ++ line_roles 0 (formals_of sections.now)) }
@@ -356,6 +374,7 @@ fn formals(out: &mut Vec<LineRole>, sections: &Option<Vec<Section>>) -> Result<(
     plain(out)
 }
 
+/// Appends the roles of a section of parameters.
 fn section(out: &mut Vec<LineRole>, s: &Section) -> Result<(), AllocError>
     ensures { IfOk result (λ _. out.new.items ≡ out.old.items ++ line_roles 0 (section_of s.now)) }
 {
@@ -367,7 +386,7 @@ fn section(out: &mut Vec<LineRole>, s: &Section) -> Result<(), AllocError>
     written_type(out, &s.written)
 }
 
-/// Appends the roles of the constants of a block of this level.
+/// Appends the roles of the CONST section of a block of this level, if there is one.
 fn constants(
     out: &mut Vec<LineRole>,
     level: u32,
@@ -389,6 +408,7 @@ fn constants(
     Ok(())
 }
 
+/// Appends the roles of the TYPE section of a block of this level, if there is one.
 fn types(
     out: &mut Vec<LineRole>,
     level: u32,
@@ -410,6 +430,7 @@ fn types(
     Ok(())
 }
 
+/// Appends the roles of the VAR section of a block of this level, if there is one.
 fn variables(
     out: &mut Vec<LineRole>,
     level: u32,
@@ -431,6 +452,7 @@ fn variables(
     Ok(())
 }
 
+/// Appends the roles of the body of a block of this level, if there is one. Its statements are one level deeper.
 fn body(
     out: &mut Vec<LineRole>,
     level: u32,
@@ -463,7 +485,7 @@ fn block(out: &mut Vec<LineRole>, level: u32, b: &Block) -> Result<(), AllocErro
     body(out, level, &b.body)
 }
 
-/// Appends the roles of a procedure that a block of this level declares.
+/// Appends the roles of a procedure that a block of this level declares. The procedure is one level deeper.
 #[cycle(blocks)]
 fn procedure(out: &mut Vec<LineRole>, level: u32, p: &Procedure) -> Result<(), AllocError>
     ensures { IfOk result

@@ -1,5 +1,4 @@
--- Defines examples of texts, given by the kinds of their tokens, with the places at which the
--- descent stops in them.
+-- Texts, given by the kinds of their tokens, with the places at which the descent stops in them.
 -- Rule: docs/LANGUAGE.md, Syntax faults (its examples).
 use Rattle.std.specs.Prelude.{ℕ, zero, suc, ◌+◌, List, [], ◌∷◌, ◌++◌}
 use Rattle.ob0_scan.specs.declared.lexeme.TokenKind.{TokenKind}
@@ -13,13 +12,13 @@ use Rattle.ob0_tree.specs.Places.{lexeme_of}
 use Rattle.ob0_parse_descent.specs.Descent.{Stop, Done, Expects, Deep, DescendsText}
 use Rattle.ob0_parse_descent.specs.declared.refusal.Expected.TheVariants as expected
 
--- Returns the tokens of these kinds, the first of which has the index i, followed by the end of the
--- text.
+-- Returns tokens of these kinds, followed by the end of the text. The first token has the index
+-- `i`.
 abbrev pub tokens_from : ℕ → List TokenKind → List (Terminal ℕ)
 tokens_from i [] = EndOfText ∷ []
 tokens_from i (k ∷ ks) = lexeme_of i k ∷ tokens_from (i + 1) ks
 
--- Holds if the descent stops like this in a text whose tokens have these kinds.
+-- Holds if the descent ends with this stop in a text whose tokens have these kinds.
 abbrev pub DescendsKinds : List TokenKind → Stop → Type 0
 DescendsKinds kinds stop = DescendsText (tokens_from 0 kinds) stop
 
@@ -47,7 +46,7 @@ module_begins = w reserved.Module ∷ ident ∷ s symbol.Semicolon ∷ []
 abbrev pub module_ends : List TokenKind
 module_ends = w reserved.End ∷ ident ∷ s symbol.Dot ∷ []
 
--- Returns the list repeated n times.
+-- Returns the list repeated `n` times.
 abbrev pub times : ℕ → List TokenKind → List TokenKind
 times zero ks = []
 times (suc n) ks = ks ++ times n ks
@@ -93,7 +92,7 @@ pub record ExpectedRows : Type 0 where
   -- MODULE M; BEGIN WriteLn END M.
   pub whole : DescendsKinds (module_begins ++ (w reserved.Begin ∷ ident ∷ module_ends)) Done
 
--- Holds if the descent stops at the 101st of several constructs that are nested in each other.
+-- Holds if the descent stops at the 101st of 101 constructs that are nested in each other.
 pub record DeepRows : Type 0 where
   -- MODULE M; BEGIN, 101 times IF TRUE THEN, 101 times END, END M.
   pub ifs : DescendsKinds (module_begins

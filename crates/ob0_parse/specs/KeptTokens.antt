@@ -20,8 +20,8 @@ use Rattle.ob0_parse.specs.declared.kept.Kept.{Kept}
 use Rattle.ob0_parse.specs.declared.kept.KeptBody.{KeptBody}
 use Rattle.ob0_parse.specs.declared.kept.KeptProcedure.{KeptProcedure}
 
--- Returns tokens of these kinds, in the form in which a tree over indexes spells them. The first
--- token has the index i.
+-- Returns tokens of these kinds, as a tree over indexes spells them. The first token has the index
+-- `i`.
 abbrev pub lexemes_by : ℕ → List TokenKind → List (Terminal ℕ)
 lexemes_by i [] = []
 lexemes_by i (k ∷ ks) = lexeme_of i k ∷ lexemes_by (i + 1) ks
@@ -35,19 +35,21 @@ abbrev pub end_of : Tree ℕ (item procedure) → ℕ
 end_of (declares_procedure name fs b closing) = closing + 2
 
 -- Holds if the tokens `at..next` have the kinds that the tree spells, and its nesting is within the
--- limit. The leaves of the tree are right if its first token has the index `from`.
+-- limit. The leaves of the tree are the indexes in a text in which its first token has the index
+-- `from`.
 pub record IsThere {s : Sort} (ts : List Token) (from at next : ℕ) (t : Tree ℕ s) : Type 0 where
   pub spelled : spell t ≡ lexemes_by from (slice_range (kinds ts) at next)
   pub shallow : nesting t ≤ max_nesting
   pub forward : at < next
   pub within : next ≤ length ts
 
--- Holds if the tokens `at..next` have the kinds that the tree spells, its nesting is within the
--- limit, and its leaves are in place.
+-- Holds if the tokens `at..next` have the kinds that the tree spells, and its nesting is within the
+-- limit. Its leaves must be the indexes of these tokens.
 abbrev pub IsInPlace : {s : Sort} → List Token → ℕ → ℕ → Tree ℕ s → Type 0
 IsInPlace ts at next t = IsThere ts at at next t
 
--- Holds if the procedure's tokens and leaves are at the place that its own leaves give.
+-- Holds if a procedure's leaves are the indexes of its tokens, which are at the place that these
+-- leaves give.
 abbrev pub IsMade : List Token → Procedure → Type 0
 IsMade ts p = IsInPlace ts (first_of (procedure_of p)) (end_of (procedure_of p)) (procedure_of p)
 
@@ -70,13 +72,13 @@ abbrev pub Each : {A : Type 0} → (A → Type 0) → List A → Type 0
 Each P [] = Unit {0}
 Each P (x ∷ xs) = P x × Each P xs
 
--- Holds if the tokens of every kept tree are at its place.
+-- Holds if the tokens of every kept tree are at the place that is kept with it.
 pub record AreKept (ts : List Token) (k : Kept) : Type 0 where
   pub made : Each (IsMade ts) k.made.items
   pub waiting : Each (IsWaiting ts) k.waiting.items
   pub body : IsBodyKept ts k.body
 
--- Holds if k is the body of a module with these procedures, whose closing name has the index
+-- Holds if `k` is the body of a module with these procedures, whose closing name has the index
 -- `closing`. BEGIN follows the last procedure, and END follows the statements.
 pub record IsMadeBody
     (ps : List Procedure) (statements : Option (Vec Statement Global)) (closing : ℕ) (k : KeptBody)
@@ -89,8 +91,8 @@ pub record IsMadeBody
 
 -- ---- another text
 
--- Holds if a tree at `at..next` in the old text is at the range `place` in the new text. This is
--- for any two texts that have these same tokens.
+-- Holds if a tree at `at..next` in the old text is always at the range `place` in the new text. The
+-- two texts may be any that share the tokens which `same` describes.
 abbrev pub CarriesTokens : SameTokens → ℕ → ℕ → ℕ × ℕ → Type 0
 CarriesTokens same at next place =
     (s : Sort) (old new : List Token) (from : ℕ) (t : Tree ℕ s)
@@ -98,14 +100,14 @@ CarriesTokens same at next place =
     → IsThere old from at next t
     → IsThere new from place.0 place.1 t
 
--- Holds if b waits in the new text whenever a waits in the old text. This is for any two texts that
--- have these same tokens.
+-- Holds if `b` waits in the new text whenever `a` waits in the old text. The two texts may be any
+-- that share the tokens which `same` describes.
 abbrev pub CarriesTo : SameTokens → KeptProcedure → KeptProcedure → Type 0
 CarriesTo same a b =
     (old new : List Token) → HasSameTokens same old new → IsWaiting old a → IsWaiting new b
 
--- Holds if the procedures `after` wait in the new text whenever a waits in the old text and
--- `before` wait in the new one.
+-- Holds if the procedures `after` wait in the new text whenever `a` waits in the old text and
+-- `before` wait in the new text.
 abbrev pub CarriesOne : SameTokens
     → KeptProcedure
     → List KeptProcedure
@@ -118,7 +120,8 @@ CarriesOne same a before after =
     → Each (IsWaiting new) before
     → Each (IsWaiting new) after
 
--- Holds if the procedures ys wait in the new text whenever the procedures xs wait in the old text.
+-- Holds if the procedures `ys` wait in the new text whenever the procedures `xs` wait in the old
+-- text.
 abbrev pub CarriesAll : SameTokens → List KeptProcedure → List KeptProcedure → Type 0
 CarriesAll same xs ys =
     (old new : List Token)
@@ -126,8 +129,8 @@ CarriesAll same xs ys =
     → Each (IsWaiting old) xs
     → Each (IsWaiting new) ys
 
--- Holds if the procedures `after` wait in the new text whenever p is in place in the old text and
--- `before` wait in the new one.
+-- Holds if `after` wait in the new text whenever `p` is in place in the old text and `before` wait
+-- in the new text.
 abbrev pub CarriesMade : SameTokens
     → Procedure
     → List KeptProcedure
@@ -140,8 +143,8 @@ CarriesMade same p before after =
     → Each (IsWaiting new) before
     → Each (IsWaiting new) after
 
--- Holds if the procedures `after` wait in the new text whenever all of ps are in place in the old
--- text and `before` wait in the new one.
+-- Holds if `after` wait in the new text whenever `ps` are in place in the old text and `before`
+-- wait in the new text.
 abbrev pub CarriesAllMade : SameTokens
     → List Procedure
     → List KeptProcedure
@@ -154,8 +157,8 @@ CarriesAllMade same ps before after =
     → Each (IsWaiting new) before
     → Each (IsWaiting new) after
 
--- Holds if the body b is at its place in the new text whenever the body a is at its place in the
--- old text.
+-- Holds if the body `b` is at its place in the new text whenever the body `a` is at its place in
+-- the old text.
 abbrev pub CarriesBody : SameTokens → KeptBody → KeptBody → Type 0
 CarriesBody same a b =
     (old new : List Token)
@@ -163,13 +166,13 @@ CarriesBody same a b =
     → IsBodyThere old a
     → IsBodyThere new b
 
--- Holds if the body b, if any, is at its place in the new text whenever the body a, if any, is at
--- its place in the old text.
+-- Holds if in any two texts with these same tokens, `b` is in place in the new text whenever `a` is
+-- in place in the old text. An absent body counts as in place.
 abbrev pub CarriesAnyBody : SameTokens → Option KeptBody → Option KeptBody → Type 0
 CarriesAnyBody same a b =
     (old new : List Token) → HasSameTokens same old new → IsBodyKept old a → IsBodyKept new b
 
--- Holds if k is the procedure p with the place that its own leaves give.
+-- Holds if `k` is the procedure `p` with the place that its own leaves give.
 abbrev pub IsMadeAt : Procedure → KeptProcedure → Type 0
 IsMadeAt p k =
     (k.procedure ≡ p)
@@ -178,13 +181,13 @@ IsMadeAt p k =
 
 -- ---- reusing
 
--- Holds if x is a procedure and the index of the token after it. The procedure begins at this
--- index, and its leaves are in place.
+-- Holds if `x` is a procedure that begins at the index `at` with its leaves in place, and the index
+-- of the token after it.
 abbrev pub IsTakenAt : List Token → ℕ → Procedure × ℕ → Type 0
 IsTakenAt ts at x = IsInPlace ts at x.1 (procedure_of x.0)
 
--- Holds if x is a procedure that begins at this index with its leaves in place, whenever all the
--- waiting procedures are at their places.
+-- Holds if `x` is a procedure that begins at the index `at` with its leaves in place. This is for
+-- any text that has all the waiting procedures at their places.
 abbrev pub IsTakenFrom : List KeptProcedure → ℕ → Procedure × ℕ → Type 0
 IsTakenFrom waiting at x = (ts : List Token) → Each (IsWaiting ts) waiting → IsTakenAt ts at x
 
@@ -193,7 +196,7 @@ abbrev pub StayWaiting : List KeptProcedure → List KeptProcedure → Type 0
 StayWaiting before after =
     (ts : List Token) → Each (IsWaiting ts) before → Each (IsWaiting ts) after
 
--- Holds if x is the statements of a body and the index of the token after it. The body begins at
--- this index, and its leaves are in place.
+-- Holds if `x` has the statements of a body and the index of the token after it. The body begins at
+-- the index `at` with its leaves in place.
 abbrev pub IsTakenBody : List Token → ℕ → Vec Statement Global × ℕ → Type 0
 IsTakenBody ts at x = IsInPlace ts at x.1 (body_of (Some x.0))

@@ -4,7 +4,7 @@ use Rattle.std.specs.Prelude.{ℕ, ◌+◌, ◌-◌, ◌^◌, min}
 use Rattle.ob0_tree.specs.Tree.{Sort, Tree, mapped}
 use Rattle.ob0_parse.specs.declared.moving.Move.{Move}
 
--- Returns the leaf moved by the distance from `by.from` to `by.to`, at most the largest index.
+-- Returns the leaf moved by the distance from `by.from` to `by.to`, at most 2^64 - 1.
 abbrev pub moved_to : Move → ℕ → ℕ
 moved_to by i = min (i - by.from + by.to) (2 ^ 64 - 1)
 

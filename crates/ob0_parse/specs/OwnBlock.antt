@@ -20,14 +20,14 @@ own_block_of ps parts =
     (items_of procedure_of ps))
     (body_of parts.body)
 
--- Holds if the procedures ps begin at this index and end at the returned one, or if the refusal of
--- the procedures is right.
+-- Holds for a returned index if the procedures `ps` begin at `at` and end there. Holds for a
+-- refusal if it is right for the procedures at `at`.
 abbrev pub ReadsOwn : List Procedure → List Token → ℕ → Result ℕ ParseRefusal → Type 0
 ReadsOwn ps ts at (Ok next) = Taken (items_of procedure_of ps) max_nesting ts at next
 ReadsOwn ps ts at (Err e) = FailsToRead (node (items procedure) max_nesting ∷ []) ts at e
 
--- Holds if the result is the module that the tokens are, from the first to the last, or if the
--- refusal is right.
+-- Holds for a parsed module if its tree spells the tokens, from the first to the last. Holds for a
+-- refusal if it is right for a module.
 abbrev pub ReadsModule : List Token → Result (ℕ × Block × ℕ) ParseRefusal → Type 0
 ReadsModule ts (Ok x) = Taken (is_module x.0 (block_of x.1) x.2) max_nesting ts 0 (length ts)
 ReadsModule ts (Err e) = FailsToRead (node module_text max_nesting ∷ finish ∷ []) ts 0 e

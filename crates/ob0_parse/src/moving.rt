@@ -21,7 +21,7 @@ pub(crate) struct Move {
 }
 
 impl Move {
-    /// Returns the moved leaf, at most the largest index.
+    /// Returns the moved leaf, at most 2^64 - 1.
     fn of(self, leaf: usize) -> usize
         ensures { result ≡ moved_to self leaf }
     {
@@ -29,6 +29,7 @@ impl Move {
     }
 }
 
+/// Moves all leaves of an expression.
 #[cycle(expressions)]
 fn expression(e: &mut Expression, by: Move)
     ensures { expression_of e.new ≡ moved by (expression_of e.old) }
@@ -39,6 +40,7 @@ fn expression(e: &mut Expression, by: Move)
     }
 }
 
+/// Moves all leaves of an expression that isn't a single factor.
 #[cycle(expressions)]
 fn compound(c: &mut Compound, by: Move)
     ensures { compound_of c.new ≡ moved by (compound_of c.old) }
@@ -47,6 +49,7 @@ fn compound(c: &mut Compound, by: Move)
     comparison_if_any(&mut c.compared, by);
 }
 
+/// Moves all leaves of a comparison, if there is one.
 #[cycle(expressions)]
 fn comparison_if_any(c: &mut Option<Box<Comparison>>, by: Move)
     ensures { compared_of (back-Compound-compared c.new)
@@ -57,6 +60,7 @@ fn comparison_if_any(c: &mut Option<Box<Comparison>>, by: Move)
     }
 }
 
+/// Moves all leaves of a relation's right side.
 #[cycle(expressions)]
 fn comparison(c: &mut Comparison, by: Move)
     ensures { comparison_of c.new ≡ moved by (comparison_of c.old) }
@@ -64,6 +68,7 @@ fn comparison(c: &mut Comparison, by: Move)
     simple(&mut c.right, by);
 }
 
+/// Moves all leaves of a simple expression.
 #[cycle(expressions)]
 fn simple(s: &mut Simple, by: Move)
     ensures { simple_of s.new ≡ moved by (simple_of s.old) }
@@ -72,6 +77,7 @@ fn simple(s: &mut Simple, by: Move)
     addends(&mut s.more, by);
 }
 
+/// Moves all leaves of further terms.
 #[cycle(expressions)]
 fn addends(parts: &mut Vec<Addend>, by: Move)
     ensures { items_of addend_of parts.new.items
@@ -82,6 +88,7 @@ fn addends(parts: &mut Vec<Addend>, by: Move)
     }
 }
 
+/// Moves all leaves of a further term.
 #[cycle(expressions)]
 fn addend(a: &mut Addend, by: Move)
     ensures { addend_of a.new ≡ moved by (addend_of a.old) }
@@ -89,6 +96,7 @@ fn addend(a: &mut Addend, by: Move)
     term(&mut a.term, by);
 }
 
+/// Moves all leaves of a term.
 #[cycle(expressions)]
 fn term(t: &mut Term, by: Move)
     ensures { term_of t.new ≡ moved by (term_of t.old) }
@@ -97,6 +105,7 @@ fn term(t: &mut Term, by: Move)
     multipliers(&mut t.more, by);
 }
 
+/// Moves all leaves of further factors.
 #[cycle(expressions)]
 fn multipliers(parts: &mut Vec<Multiplier>, by: Move)
     ensures { items_of multiplier_of parts.new.items
@@ -107,6 +116,7 @@ fn multipliers(parts: &mut Vec<Multiplier>, by: Move)
     }
 }
 
+/// Moves all leaves of a further factor.
 #[cycle(expressions)]
 fn multiplier(m: &mut Multiplier, by: Move)
     ensures { multiplier_of m.new ≡ moved by (multiplier_of m.old) }
@@ -114,6 +124,7 @@ fn multiplier(m: &mut Multiplier, by: Move)
     factor(&mut m.factor, by);
 }
 
+/// Moves all leaves of a factor.
 #[cycle(expressions)]
 fn factor(f: &mut Factor, by: Move)
     ensures { factor_of f.new ≡ moved by (factor_of f.old) }
@@ -126,6 +137,7 @@ fn factor(f: &mut Factor, by: Move)
     }
 }
 
+/// Moves all leaves of a name with its selectors.
 #[cycle(expressions)]
 fn designator(d: &mut Designator, by: Move)
     ensures { designator_of d.new ≡ moved by (designator_of d.old) }
@@ -134,6 +146,7 @@ fn designator(d: &mut Designator, by: Move)
     selectors(&mut d.selectors, by);
 }
 
+/// Moves all leaves of selectors.
 #[cycle(expressions)]
 fn selectors(parts: &mut Vec<Selector>, by: Move)
     ensures { items_of selector_of parts.new.items
@@ -144,6 +157,7 @@ fn selectors(parts: &mut Vec<Selector>, by: Move)
     }
 }
 
+/// Moves all leaves of a selector.
 #[cycle(expressions)]
 fn selector(s: &mut Selector, by: Move)
     ensures { selector_of s.new ≡ moved by (selector_of s.old) }
@@ -154,6 +168,7 @@ fn selector(s: &mut Selector, by: Move)
     }
 }
 
+/// Moves all leaves of an assignment.
 fn assignment(a: &mut Assignment, by: Move)
     ensures { assignment_of a.new ≡ moved by (assignment_of a.old) }
 {
@@ -161,6 +176,7 @@ fn assignment(a: &mut Assignment, by: Move)
     expression(&mut a.value, by);
 }
 
+/// Moves all leaves of a call.
 fn call(c: &mut Call, by: Move)
     ensures { call_of c.new ≡ moved by (call_of c.old) }
 {
@@ -170,6 +186,7 @@ fn call(c: &mut Call, by: Move)
     }
 }
 
+/// Moves all leaves of the arguments of a call.
 fn arguments(given: &mut Vec<Expression>, by: Move)
     ensures { arguments_in given.new ≡ moved by (arguments_in given.old) }
 {
@@ -188,6 +205,7 @@ pub(crate) fn sequence(statements: &mut Vec<Statement>, by: Move)
     }
 }
 
+/// Moves all leaves of a statement.
 #[cycle(statements)]
 fn statement(s: &mut Statement, by: Move)
     ensures { statement_of s.new ≡ moved by (statement_of s.old) }
@@ -202,6 +220,7 @@ fn statement(s: &mut Statement, by: Move)
     }
 }
 
+/// Moves all leaves of a WHILE statement.
 #[cycle(statements)]
 fn while_loop(w: &mut While, by: Move)
     ensures condition { expression_of w.new.condition ≡ moved by (expression_of w.old.condition) }
@@ -211,6 +230,7 @@ fn while_loop(w: &mut While, by: Move)
     sequence(&mut w.body, by);
 }
 
+/// Moves all leaves of a REPEAT statement.
 #[cycle(statements)]
 fn repeat_loop(r: &mut Repeat, by: Move)
     ensures body { sequence_in r.new.body ≡ moved by (sequence_in r.old.body) }
@@ -220,6 +240,7 @@ fn repeat_loop(r: &mut Repeat, by: Move)
     expression(&mut r.condition, by);
 }
 
+/// Moves all leaves of an IF statement.
 #[cycle(statements)]
 fn branches(i: &mut If, by: Move)
     ensures { if_of i.new ≡ moved by (if_of i.old) }
@@ -233,6 +254,7 @@ fn branches(i: &mut If, by: Move)
     }
 }
 
+/// Moves all leaves of ELSIF parts.
 #[cycle(statements)]
 fn elsifs(parts: &mut Vec<Elsif>, by: Move)
     ensures { elsifs_in parts.new ≡ moved by (elsifs_in parts.old) }
@@ -242,6 +264,7 @@ fn elsifs(parts: &mut Vec<Elsif>, by: Move)
     }
 }
 
+/// Moves all leaves of an ELSIF part.
 #[cycle(statements)]
 fn elsif(e: &mut Elsif, by: Move)
     ensures { elsif_of e.new ≡ moved by (elsif_of e.old) }
@@ -250,6 +273,7 @@ fn elsif(e: &mut Elsif, by: Move)
     sequence(&mut e.then, by);
 }
 
+/// Moves all leaves of a list of names.
 fn names(ns: &mut Names, by: Move)
     ensures { names_of ns.new ≡ moved by (names_of ns.old) }
 {
@@ -257,6 +281,7 @@ fn names(ns: &mut Names, by: Move)
     further_names(&mut ns.more, by);
 }
 
+/// Moves all leaves of a list of names after the first.
 fn further_names(leaves: &mut Vec<usize>, by: Move)
     ensures { items_of then_name leaves.new.items ≡ moved by (items_of then_name leaves.old.items) }
 {
@@ -266,6 +291,7 @@ fn further_names(leaves: &mut Vec<usize>, by: Move)
     }
 }
 
+/// Moves all leaves of a written type.
 #[cycle(types)]
 fn written_type(t: &mut WrittenType, by: Move)
     ensures { type_of t.new ≡ moved by (type_of t.old) }
@@ -280,6 +306,7 @@ fn written_type(t: &mut WrittenType, by: Move)
     }
 }
 
+/// Moves all leaves of the groups of fields of a record.
 #[cycle(types)]
 fn groups(parts: &mut Vec<Fields>, by: Move)
     ensures { record_listed parts.new.items ≡ moved by (record_listed parts.old.items) }
@@ -289,6 +316,7 @@ fn groups(parts: &mut Vec<Fields>, by: Move)
     }
 }
 
+/// Moves all leaves of a group of fields, which may be empty.
 #[cycle(types)]
 fn fields(f: &mut Fields, by: Move)
     ensures { fields_of f.new ≡ moved by (fields_of f.old) }
@@ -299,6 +327,7 @@ fn fields(f: &mut Fields, by: Move)
     }
 }
 
+/// Moves all leaves of a group of fields.
 #[cycle(types)]
 fn group(g: &mut FieldGroup, by: Move)
     ensures names { names_of g.new.names ≡ moved by (names_of g.old.names) }
@@ -308,6 +337,7 @@ fn group(g: &mut FieldGroup, by: Move)
     written_type(&mut g.written, by);
 }
 
+/// Moves all leaves of a section of parameters.
 fn section(s: &mut Section, by: Move)
     ensures { section_of s.new ≡ moved by (section_of s.old) }
 {
@@ -315,6 +345,7 @@ fn section(s: &mut Section, by: Move)
     written_type(&mut s.written, by);
 }
 
+/// Moves all leaves of formal parameters.
 fn formals(sections: &mut Option<Vec<Section>>, by: Move)
     ensures { formals_of sections.new ≡ moved by (formals_of sections.old) }
 {
@@ -323,6 +354,7 @@ fn formals(sections: &mut Option<Vec<Section>>, by: Move)
     }
 }
 
+/// Moves all leaves of sections of parameters.
 fn section_list(listed: &mut Vec<Section>, by: Move)
     ensures { formals_listed listed.new.items ≡ moved by (formals_listed listed.old.items) }
 {
@@ -331,6 +363,7 @@ fn section_list(listed: &mut Vec<Section>, by: Move)
     }
 }
 
+/// Moves all leaves of a CONST section, if there is one.
 fn constants(declared: &mut Option<Vec<Constant>>, by: Move)
     ensures { constants_of declared.new ≡ moved by (constants_of declared.old) }
 {
@@ -339,6 +372,7 @@ fn constants(declared: &mut Option<Vec<Constant>>, by: Move)
     }
 }
 
+/// Moves all leaves of declarations of constants.
 fn constant_list(listed: &mut Vec<Constant>, by: Move)
     ensures { constants_in listed.new ≡ moved by (constants_in listed.old) }
 {
@@ -347,6 +381,7 @@ fn constant_list(listed: &mut Vec<Constant>, by: Move)
     }
 }
 
+/// Moves all leaves of a declaration of a constant.
 fn constant(c: &mut Constant, by: Move)
     ensures { constant_of c.new ≡ moved by (constant_of c.old) }
 {
@@ -354,6 +389,7 @@ fn constant(c: &mut Constant, by: Move)
     expression(&mut c.value, by);
 }
 
+/// Moves all leaves of a TYPE section, if there is one.
 fn types(declared: &mut Option<Vec<TypeDeclaration>>, by: Move)
     ensures { types_of declared.new ≡ moved by (types_of declared.old) }
 {
@@ -362,6 +398,7 @@ fn types(declared: &mut Option<Vec<TypeDeclaration>>, by: Move)
     }
 }
 
+/// Moves all leaves of declarations of types.
 fn type_list(listed: &mut Vec<TypeDeclaration>, by: Move)
     ensures { types_in listed.new ≡ moved by (types_in listed.old) }
 {
@@ -370,6 +407,7 @@ fn type_list(listed: &mut Vec<TypeDeclaration>, by: Move)
     }
 }
 
+/// Moves all leaves of a declaration of a type.
 fn type_declaration(d: &mut TypeDeclaration, by: Move)
     ensures { type_declaration_of d.new ≡ moved by (type_declaration_of d.old) }
 {
@@ -377,6 +415,7 @@ fn type_declaration(d: &mut TypeDeclaration, by: Move)
     written_type(&mut d.written, by);
 }
 
+/// Moves all leaves of a VAR section, if there is one.
 fn variables(declared: &mut Option<Vec<Variables>>, by: Move)
     ensures { variables_of declared.new ≡ moved by (variables_of declared.old) }
 {
@@ -385,6 +424,7 @@ fn variables(declared: &mut Option<Vec<Variables>>, by: Move)
     }
 }
 
+/// Moves all leaves of declarations of variables.
 fn variable_list(listed: &mut Vec<Variables>, by: Move)
     ensures { variables_in listed.new ≡ moved by (variables_in listed.old) }
 {
@@ -393,6 +433,7 @@ fn variable_list(listed: &mut Vec<Variables>, by: Move)
     }
 }
 
+/// Moves all leaves of a declaration of variables.
 fn variable(v: &mut Variables, by: Move)
     ensures { variable_of v.new ≡ moved by (variable_of v.old) }
 {
@@ -400,6 +441,7 @@ fn variable(v: &mut Variables, by: Move)
     written_type(&mut v.written, by);
 }
 
+/// Moves all leaves of a block's statements.
 fn body(statements: &mut Option<Vec<Statement>>, by: Move)
     ensures { body_of statements.new ≡ moved by (body_of statements.old) }
 {
@@ -408,6 +450,7 @@ fn body(statements: &mut Option<Vec<Statement>>, by: Move)
     }
 }
 
+/// Moves all leaves of a block.
 #[cycle(blocks)]
 fn block(b: &mut Block, by: Move)
     ensures { block_of b.new ≡ moved by (block_of b.old) }
@@ -419,6 +462,7 @@ fn block(b: &mut Block, by: Move)
     body(&mut b.body, by);
 }
 
+/// Moves all leaves of procedures.
 #[cycle(blocks)]
 fn procedures(ps: &mut Vec<Procedure>, by: Move)
     ensures { procedures_in ps.new ≡ moved by (procedures_in ps.old) }

@@ -78,7 +78,8 @@ fn own_procedure(
     }
 }
 
-/// Returns the body of a module: the kept one if it begins at this token, otherwise a parsed one.
+/// Returns the body of a module, or None if no BEGIN is at this token. It is the kept body if this begins here,
+/// otherwise a parsed one.
 fn own_body(
     parser: &Parser<'_>,
     at: usize,
@@ -116,7 +117,7 @@ fn kept_body(
     None
 }
 
-/// Returns whether this token is the reserved word END.
+/// Returns true if this token is the reserved word END.
 fn is_end(parser: &Parser<'_>, at: usize) -> bool
     requires { at ≤ length parser.now.tokens.now }
     ensures { TokenIs (kind.Reserved reserved.End) parser.now.tokens.now at result }

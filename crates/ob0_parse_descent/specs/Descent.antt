@@ -34,16 +34,16 @@ pub data Choice : Type 0 where
   missing : Expected → Choice
   too_deep : Choice
 
--- Returns the part that is this reserved word.
+-- Returns the part of a production that is this reserved word.
 abbrev pub word : Reserved → Part
 word w = token (kind.Reserved w)
 
--- Returns the part that is this symbol.
+-- Returns the part of a production that is this symbol.
 abbrev pub sign : Symbol → Part
 sign s = token (kind.Symbol s)
 
--- Returns the parts of a construct that counts for nesting, whose inside has one level less (LANGUAGE.md, Nesting and
--- limits). If no level is left, the construct is too deep.
+-- Returns the choice for a construct that counts for nesting, whose inside has one level less
+-- (LANGUAGE.md, Nesting and limits). If no level is left, the construct is too deep.
 abbrev pub nested : ℕ → (ℕ → List Part) → Choice
 nested zero inside = too_deep
 nested (suc room) inside = parts (inside room)
@@ -71,24 +71,25 @@ abbrev pub is_assigned : List (Terminal ℕ) → Bool
 is_assigned (Mark (kind.Symbol symbol.Becomes) ∷ tokens) = true
 is_assigned tokens = is_next selector tokens
 
--- Returns the parts of an operator and its right side.
+-- Returns the parts of one item that consists of an operator and its right side, a construct of the
+-- sort `s`.
 abbrev pub operation : Sort → ℕ → List (Terminal ℕ) → Choice
 operation s room (Mark k ∷ tokens) = parts (token k ∷ node s room ∷ [])
 operation s room tokens = missing expected.Expression
 
--- Returns the production of an item. It is used only if the next token begins the item, so its value for other tokens
--- doesn't matter.
+-- Returns the production of an item, with `room` levels of nesting left. It is used only if the
+-- next token begins the item, so its value for other tokens doesn't matter.
 abbrev pub chosen_item : Item → (room : ℕ) → List (Terminal ℕ) → Choice
 -- selector = "[" expression "]" | "." ident
 chosen_item selector room (Mark (kind.Symbol symbol.LeftBracket) ∷ tokens) =
     nested room
     (λ inner. sign symbol.LeftBracket ∷ node expression inner ∷ sign symbol.RightBracket ∷ [])
 chosen_item selector room tokens = parts (sign symbol.Dot ∷ name ∷ [])
--- {("*" | DIV | MOD | "&") factor}
+-- one item of {("*" | DIV | MOD | "&") factor}: the operator and its factor
 chosen_item multiplier room tokens = operation factor room tokens
--- {("+" | "-" | OR) term}
+-- one item of {("+" | "-" | OR) term}: the operator and its term
 chosen_item addend room tokens = operation term room tokens
--- [("=" | "#" | "<" | "<=" | ">" | ">=") simple]
+-- the item of [("=" | "#" | "<" | "<=" | ">" | ">=") simple]
 chosen_item comparison room tokens = operation simple room tokens
 -- arguments = "(" [expression {"," expression}] ")"
 chosen_item arguments room tokens =
@@ -99,19 +100,19 @@ chosen_item arguments room tokens =
     ∷ sign symbol.RightParen
     ∷ [])
     else parts (sign symbol.LeftParen ∷ sign symbol.RightParen ∷ [])
--- {"," expression}
+-- one item of {"," expression}
 chosen_item further_argument room tokens = parts (sign symbol.Comma ∷ node expression room ∷ [])
--- {";" statement}
+-- one item of {";" statement}
 chosen_item further_statement room tokens = parts (sign symbol.Semicolon ∷ node statement room ∷ [])
--- {ELSIF expression THEN sequence}
+-- one item of {ELSIF expression THEN sequence}
 chosen_item elsif_part room tokens =
     parts
     (word reserved.Elsif ∷ node expression room ∷ word reserved.Then ∷ node sequence room ∷ [])
--- [ELSE sequence]
+-- the item of [ELSE sequence]
 chosen_item else_part room tokens = parts (word reserved.Else ∷ node sequence room ∷ [])
--- {"," ident}
+-- one item of {"," ident}
 chosen_item further_name room tokens = parts (sign symbol.Comma ∷ name ∷ [])
--- {";" fields}
+-- one item of {";" fields}
 chosen_item further_fields room tokens = parts (sign symbol.Semicolon ∷ node fields room ∷ [])
 -- formals = "(" [section {";" section}] ")"
 chosen_item formals room tokens =
@@ -122,24 +123,25 @@ chosen_item formals room tokens =
     ∷ sign symbol.RightParen
     ∷ [])
     else parts (sign symbol.LeftParen ∷ sign symbol.RightParen ∷ [])
--- {";" section}
+-- one item of {";" section}
 chosen_item further_section room tokens = parts (sign symbol.Semicolon ∷ node section room ∷ [])
--- {ident "=" expression ";"}
+-- one item of {ident "=" expression ";"}
 chosen_item constant room tokens =
     parts (name ∷ sign symbol.Equal ∷ node expression room ∷ sign symbol.Semicolon ∷ [])
--- [CONST {ident "=" expression ";"}]
+-- the item of [CONST {ident "=" expression ";"}]
 chosen_item constants room tokens = parts (word reserved.Const ∷ node (items constant) room ∷ [])
--- {ident "=" type ";"}
+-- one item of {ident "=" type ";"}
 chosen_item type_name room tokens =
     parts (name ∷ sign symbol.Equal ∷ node written_type room ∷ sign symbol.Semicolon ∷ [])
--- [TYPE {ident "=" type ";"}]
+-- the item of [TYPE {ident "=" type ";"}]
 chosen_item type_names room tokens = parts (word reserved.Type ∷ node (items type_name) room ∷ [])
--- {identList ":" type ";"}
+-- one item of {identList ":" type ";"}
 chosen_item variable room tokens =
     parts (node names 0 ∷ sign symbol.Colon ∷ node written_type room ∷ sign symbol.Semicolon ∷ [])
--- [VAR {identList ":" type ";"}]
+-- the item of [VAR {identList ":" type ";"}]
 chosen_item variables room tokens = parts (word reserved.Var ∷ node (items variable) room ∷ [])
--- {procedure ";"}, procedure = PROCEDURE ident [formals] ";" declarations [BEGIN sequence] END ident
+-- one item of {procedure ";"}, procedure = PROCEDURE ident [formals] ";" declarations [BEGIN
+-- sequence] END ident
 chosen_item procedure room tokens =
     nested room (λ inner. word reserved.Procedure
     ∷ name
@@ -150,11 +152,11 @@ chosen_item procedure room tokens =
     ∷ name
     ∷ sign symbol.Semicolon
     ∷ [])
--- [BEGIN sequence]
+-- the item of [BEGIN sequence]
 chosen_item body room tokens = parts (word reserved.Begin ∷ node sequence room ∷ [])
 
--- Returns the production of a construct that the next tokens determine. No part of a list of names counts for nesting,
--- so such a list needs no level.
+-- Returns the production of a construct that the next tokens determine, with `room` levels of
+-- nesting left. No part of a list of names counts for nesting, so such a list needs no level.
 abbrev pub chosen : Sort → (room : ℕ) → List (Terminal ℕ) → Choice
 chosen (item i) room tokens = chosen_item i room tokens
 chosen (items i) room tokens =
@@ -246,7 +248,7 @@ chosen declarations room tokens =
     ∷ node (maybe variables) room
     ∷ node (items procedure) room
     ∷ [])
--- declarations [BEGIN sequence]
+-- block = declarations [BEGIN sequence]
 chosen block room tokens = parts (node declarations room ∷ node (maybe body) room ∷ [])
 -- module = MODULE ident ";" declarations [BEGIN sequence] END ident "."
 chosen module_text room tokens =
@@ -292,7 +294,8 @@ pub data Stop : Type 0 where
   Expects : ℕ → Expected → Stop
   Deep : ℕ → Stop
 
--- Holds if the descent reads these parts from these tokens, the first of which has index i, and ends with this stop.
+-- Holds if the descent reads these parts from these tokens, the first of which has the index `i`,
+-- and ends with this stop.
 pub data Descends : List Part → ℕ → List (Terminal ℕ) → Stop → Type 0 where
   -- No part is left.
   done : {i : ℕ} {tokens : List (Terminal ℕ)} → Descends [] i tokens Done
@@ -318,7 +321,7 @@ pub data Descends : List Part → ℕ → List (Terminal ℕ) → Stop → Type 
   deep : {s : Sort} {room : ℕ} {ps : List Part} {i : ℕ} {tokens : List (Terminal ℕ)}
       → chosen s room tokens ≡ too_deep → Descends (node s room ∷ ps) i tokens (Deep i)
 
--- Holds if the descent through any parts and tokens has only one stop.
+-- Holds if the descent over the same parts and tokens always ends with the same stop.
 abbrev pub OneStop : Type 0
 OneStop =
     (ps : List Part) (i : ℕ) (tokens : List (Terminal ℕ)) (a b : Stop)

@@ -24,16 +24,17 @@ use Rattle.ob0_parse_descent.specs.declared.refusal.Expected.TheVariants as expe
 use Rattle.ob0_parse_descent.specs.declared.refusal.ParseRefusal.{ParseRefusal}
 use Rattle.ob0_parse_descent.specs.declared.refusal.ParseRefusal.TheVariants.{Syntax, TooDeep, Memory}
 
--- Returns the token at the index i as a tree spells it. None stands for the end of the text.
+-- Returns the token at the index `i` as a tree over indexes spells it. None stands for the end of
+-- the text.
 abbrev pub lexeme_at : ℕ → Option TokenKind → Terminal ℕ
 lexeme_at i None = EndOfText
 lexeme_at i (Some k) = lexeme_of i k
 
--- Returns the tokens from an index to the end of the text, which counts as a token.
+-- Returns the tokens from the index `i` to the end of the text, which counts as a token.
 unfoldable pub rest : List Token → ℕ → List (Terminal ℕ)
 rest ts i = drop i (lexemes ts)
 
--- Holds if the tokens begin with these parts, and each tree among the parts ends before a token
+-- Holds if the tokens begin with these parts, and each tree among the parts is followed by a token
 -- that can't continue it.
 abbrev pub Begins : List Part → List (Terminal ℕ) → Type 0
 Begins [] w = Unit {0}
@@ -86,8 +87,8 @@ pub record Taken {s : Sort} (t : Tree ℕ s) (room : ℕ) (ts : List Token) (at 
   pub within : next ≤ length ts
   pub forward : at ≤ next
 
--- Holds if the refusal is right: the tokens up to its index can't be the beginning of these parts.
--- Nothing is stated about a failed allocation.
+-- Holds for a syntax error or too deep nesting if the tokens up to its index can't be the beginning
+-- of these parts. Always holds for a failed allocation.
 abbrev pub Why : List Part → List Token → ℕ → ParseRefusal → Type 0
 Why parts ts at (Syntax i expected) = (i ≤ length ts) × Refused parts (rest ts at) (rest ts (i + 1))
 Why parts ts at (TooDeep i) = (i ≤ length ts) × Refused parts (rest ts at) (rest ts (i + 1))
@@ -97,8 +98,8 @@ Why parts ts at Memory = Unit {0}
 abbrev pub StopsIn : List Part → List Token → ℕ → Stop → Type 0
 StopsIn parts ts at o = (more : List Part) → Descends (parts ++ more) at (rest ts at) o
 
--- Holds if the descent over the parts ends with the stop that the refusal describes. Nothing is
--- stated about a failed allocation.
+-- Holds for a syntax error or too deep nesting if the descent over the parts ends with the stop
+-- that the refusal describes. Always holds for a failed allocation.
 abbrev pub StopsBy : List Part → List Token → ℕ → ParseRefusal → Type 0
 StopsBy parts ts at (Syntax i expected) = StopsIn parts ts at (Expects i expected)
 StopsBy parts ts at (TooDeep i) = StopsIn parts ts at (Deep i)
@@ -111,7 +112,8 @@ pub record FailsToRead
   pub why : Why parts ts at e
   pub reads : StopsBy parts ts at e
 
--- Holds if the result of a parser function is right for a construct that begins at this index.
+-- Holds for a parsed construct if it is the tree that begins at the index `at`. Holds for a refusal
+-- if no such construct can be read there. `view` gives the tree of a value of the code.
 abbrev pub Reads : {A : Type 0} {s : Sort}
     → (A → Tree ℕ s)
     → ℕ
@@ -122,63 +124,65 @@ abbrev pub Reads : {A : Type 0} {s : Sort}
 Reads view room ts at (Ok x) = Taken (view x.0) room ts at x.1
 Reads {s = s} view room ts at (Err e) = FailsToRead (node s room ∷ []) ts at e
 
--- Holds if the token at this index isn't x.
+-- Holds if the token at the index `at` isn't `x`.
 pub record Other (x : Terminal ℕ) (ts : List Token) (at : ℕ) : Type 0 where
   pub fault : Terminal ℕ
   pub here : rest ts at ≡ fault ∷ rest ts (at + 1)
   pub differs : fault ≢ x
   pub within : at ≤ length ts
 
--- Holds if the token at this index isn't an identifier.
+-- Holds if the token at the index `at` isn't an identifier.
 pub record NoName (ts : List Token) (at : ℕ) : Type 0 where
   pub fault : Terminal ℕ
   pub here : rest ts at ≡ fault ∷ rest ts (at + 1)
   pub ranked : rank fault ≢ 7
   pub within : at ≤ length ts
 
--- Holds if the truth value says whether this reserved word or symbol is at the index.
+-- Holds if the Bool says whether this reserved word or symbol is at the index `at`.
 abbrev pub TokenIs : TokenKind → List Token → ℕ → Bool → Type 0
 TokenIs k ts at true = (rest ts at ≡ Mark k ∷ rest ts (at + 1)) × (at < length ts)
 TokenIs k ts at false = Other (Mark k) ts at
 
--- Holds if the truth value says whether an identifier is at the index.
+-- Holds if the Bool says whether an identifier is at the index `at`.
 abbrev pub NameIs : List Token → ℕ → Bool → Type 0
 NameIs ts at true = (rest ts at ≡ Name at ∷ rest ts (at + 1)) × (at < length ts)
 NameIs ts at false = NoName ts at
 
--- Holds if the result is the index after this reserved word or symbol. If another token is at the
--- index, the refusal says that this reserved word or symbol is expected.
+-- Holds for a returned index if this reserved word or symbol is at `at`, and the index is the next
+-- one. Holds for a refusal if another token is at `at`, and this one is reported as expected.
 abbrev pub ReadsToken : TokenKind → List Token → ℕ → Result ℕ ParseRefusal → Type 0
 ReadsToken k ts at (Ok next) =
     (rest ts at ≡ Mark k ∷ rest ts next) × (at < length ts) × (next ≡ at + 1)
 ReadsToken k ts at (Err e) =
     Other (Mark k) ts at × (Some e ≡ option_map (Syntax at) (expected_token k))
 
--- Holds if the result is the identifier at this index and the index after it. If another token is
--- at the index, the refusal says that an identifier is expected.
+-- Holds for a returned identifier if it is at the index `at`, and is returned with the next index.
+-- Holds for a refusal if another token is at `at`, and an identifier is reported as expected.
 abbrev pub ReadsName : List Token → ℕ → Result (ℕ × ℕ) ParseRefusal → Type 0
 ReadsName ts at (Ok x) =
     (rest ts at ≡ Name at ∷ rest ts x.1) × (at < length ts) × (x.0 ≡ at) × (x.1 ≡ at + 1)
 ReadsName ts at (Err e) = NoName ts at × (e ≡ Syntax at expected.Identifier)
 
--- Holds if the result is one level less than `room`, or `TooDeep` if no level is left.
+-- Holds for a returned number if it is one less than `room`. Holds for a refusal if `room` is 0 and
+-- the refusal is `TooDeep`.
 abbrev pub Opens : ℕ → ℕ → Result ℕ ParseRefusal → Type 0
 Opens at room (Ok inner) = room ≡ inner + 1
 Opens at room (Err e) = (room ≡ 0) × (e ≡ TooDeep at)
 
--- Holds if a factor of one token is at this index, and the token after it continues nothing at this
--- level.
+-- Holds if the factor `f` of one token is at this index, and the token after it doesn't continue a
+-- construct of this level.
 pub record IsLone (level : ℕ) (f : Tree ℕ factor) (ts : List Token) (at : ℕ) : Type 0 where
   pub taken : (room : ℕ) → Taken f room ts at (at + 1)
   pub stops : Stops level (rest ts (at + 1))
 
--- Holds if an item begins at this index and is refused.
+-- Holds if an item begins at this index and can't be read, as the refusal says.
 pub record ItemFails
     (i : Item) (room : ℕ) (ts : List Token) (at : ℕ) (e : ParseRefusal) : Type 0 where
   pub is_here : Starts (item_rank i) (rest ts at)
   pub fails : FailsToRead (node (item i) room ∷ []) ts at e
 
--- Holds if the result of a parser function is right for an optional item.
+-- Holds for a parsed item if it is the tree that begins at the index `at`. Holds for None if no
+-- such item begins there, and for a refusal if one begins there and can't be read.
 abbrev pub ReadsItem : {A : Type 0} {i : Item}
     → (A → Tree ℕ (item i))
     → ℕ
@@ -204,22 +208,22 @@ pub record SignTaken (ts : List Token) (at : ℕ) (sign : Option Sign) (next : �
   pub unsigned : IfNone sign (Unsigned (rest ts at))
   pub counted : next ≡ at + length (sign_marks {N = ℕ} sign)
 
--- Holds if the result is a name with its selectors, read as a factor, and no further selector
--- follows.
+-- Holds for a name with its selectors if they are the factor that begins at this index, and no
+-- further selector follows. Holds for a refusal if no such name and selectors can be read.
 abbrev pub ReadsDesignator : ℕ → List Token → ℕ → Result (Designator × ℕ) ParseRefusal → Type 0
 ReadsDesignator room ts at (Ok x) =
     Taken (designator x.0.name (items_of selector_of x.0.selectors.items)) room ts at x.1
     × ¬ Starts 1 (rest ts x.1)
 ReadsDesignator room ts at (Err e) = FailsToRead (name ∷ node (items selector) room ∷ []) ts at e
 
--- Holds if the operator is the one that the token is. It is None if the token's rank isn't r, the
--- rank of these operators.
+-- Holds if the option is the operator that the token `k` spells. None requires that the token's
+-- rank isn't `r`, the rank of these operators.
 abbrev pub IsMarkOf : {A : Type 0} → (A → TokenKind) → ℕ → TokenKind → Option A → Type 0
 IsMarkOf mark r k (Some a) = k ≡ mark a
 IsMarkOf mark r k None = kind_rank k ≢ r
 
--- Holds if a list was read: its first element, then the further ones with the separators before
--- them.
+-- Holds if the tokens from `at` to `next` are a list: its first element, then the further elements
+-- with the separators before them.
 pub record ListRead
     {A : Type 0} {s : Sort} {i : Item} (view : A → Tree ℕ s) (further : A → Tree ℕ (item i))
     (xs : List A) (room : ℕ) (ts : List Token) (at next : ℕ) : Type 0 where
@@ -230,7 +234,8 @@ pub record ListRead
   pub head : Taken (view first) room ts at middle
   pub tail : Taken (items_of further others) room ts middle next
 
--- Holds if the result is a list of one or more elements, or a refusal of such a list.
+-- Holds for a list of one or more elements if it begins at this index. Holds for a refusal if no
+-- such list can be read.
 abbrev pub ReadsList : {A : Type 0} {s : Sort} {i : Item}
     → (A → Tree ℕ s)
     → (A → Tree ℕ (item i))
@@ -243,8 +248,8 @@ ReadsList view further room ts at (Ok x) = ListRead view further x.0.items room 
 ReadsList {s = s} {i = i} view further room ts at (Err e) =
     FailsToRead (node s room ∷ node (items i) room ∷ []) ts at e
 
--- Holds if the result is a list of names and a type with a colon between them, or a refusal of
--- these parts.
+-- Holds for names and a type if they begin at this index with a colon between them. Holds for a
+-- refusal if these parts can't be read.
 abbrev pub ReadsTyped : ℕ
     → List Token
     → ℕ
@@ -255,7 +260,7 @@ ReadsTyped room ts at (Err e) =
     FailsToRead (node names 0 ∷ token (kind.Symbol symbol.Colon) ∷ node written_type room ∷ []) ts
     at e
 
--- Holds if the truth value says whether a section of formal parameters may begin at this index.
+-- Holds if the Bool says whether a section of formal parameters may begin at this index.
 abbrev pub SectionMayBegin : List Token → ℕ → Bool → Type 0
 SectionMayBegin ts at true =
     Other (Mark (kind.Symbol symbol.RightParen)) ts at × (is_section_next (rest ts at) ≡ true)

@@ -52,7 +52,7 @@ impl<'t> Parser<'t> {
         ))
     }
 
-    /// Returns whether a section of formal parameters may begin at this token.
+    /// Returns true if a section of formal parameters may begin at this token.
     fn section_may_begin(&self, at: usize) -> bool
         requires { at ≤ length self.now.tokens.now }
         ensures { SectionMayBegin self.now.tokens.now at result }
@@ -119,6 +119,7 @@ impl<'t> Parser<'t> {
         Ok((Some(constants), next))
     }
 
+    /// Parses `{identifier "=" expression ";"}`.
     fn constant_list(&self, at: usize, room: u32) -> Parsed<Vec<Constant>>
         requires { at ≤ length self.now.tokens.now }
         ensures { Reads constants_in room self.now.tokens.now at result }
@@ -159,6 +160,7 @@ impl<'t> Parser<'t> {
         Ok((Some(types), next))
     }
 
+    /// Parses `{identifier "=" type ";"}`.
     fn type_list(&self, at: usize, room: u32) -> Parsed<Vec<TypeDeclaration>>
         requires { at ≤ length self.now.tokens.now }
         ensures { Reads types_in room self.now.tokens.now at result }
@@ -198,6 +200,7 @@ impl<'t> Parser<'t> {
         Ok((Some(variables), next))
     }
 
+    /// Parses `{names ":" type ";"}`.
     fn variable_list(&self, at: usize, room: u32) -> Parsed<Vec<Variables>>
         requires { at ≤ length self.now.tokens.now }
         ensures { Reads variables_in room self.now.tokens.now at result }

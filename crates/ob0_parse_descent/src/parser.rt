@@ -22,16 +22,20 @@ use ob0_tree::{
 };
 use std::alloc::{AllocError, Global};
 
-/// The strengths with which a token binds the operand before it (see `binding`). A smaller number
-/// binds more strongly.
+/// The strength of a selector, which binds the operand before it most strongly (see `binding`). A smaller number binds
+/// more strongly.
 const BY_SELECTOR: u8 = 1;
 
+/// The strength of `*`, DIV, MOD and `&`.
 const BY_MULTIPLICATION: u8 = 2;
 
+/// The strength of `+`, `-` and OR.
 const BY_ADDITION: u8 = 3;
 
+/// The strength of a relation.
 const BY_COMPARISON: u8 = 4;
 
+/// The strength of any other token.
 const NOT_AT_ALL: u8 = 5;
 
 /// A parsed construct with the index of the token after it, or the refusal.
@@ -64,7 +68,7 @@ impl<'t> Parser<'t> {
         }
     }
 
-    /// Returns whether the token at `at` is this reserved word.
+    /// Returns true if the token at `at` is this reserved word.
     pub(crate) fn at_word(&self, at: usize, word: Reserved) -> bool
         requires { at ≤ length self.now.tokens.now }
         ensures { TokenIs (kind.Reserved word) self.now.tokens.now at result }
@@ -72,7 +76,7 @@ impl<'t> Parser<'t> {
         self.kind(at) == Some(TokenKind::Reserved(word))
     }
 
-    /// Returns whether the token at `at` is this symbol.
+    /// Returns true if the token at `at` is this symbol.
     pub(crate) fn at_symbol(&self, at: usize, symbol: Symbol) -> bool
         requires { at ≤ length self.now.tokens.now }
         ensures { TokenIs (kind.Symbol symbol) self.now.tokens.now at result }
@@ -118,7 +122,7 @@ impl<'t> Parser<'t> {
         }
     }
 
-    /// Returns whether the token at `at` is an identifier.
+    /// Returns true if the token at `at` is an identifier.
     pub(crate) fn at_name(&self, at: usize) -> bool
         requires { at ≤ length self.now.tokens.now }
         ensures { NameIs self.now.tokens.now at result }
@@ -186,8 +190,8 @@ impl<'t> Parser<'t> {
         Ok((Expression::Compound(compound), end))
     }
 
-    /// Returns the expression that consists of this side without a relation, in the compact form if
-    /// the side is one factor.
+    /// Returns the expression that consists of this simple expression without a relation. It has the compact form if it
+    /// is a single factor.
     #[inline(always)]
     fn lone_side(&self, side: Simple) -> Result<Expression, AllocError>
         ensures { IfOk result (λ e. expression_of e ≡ compares (simple_of side) none) }
@@ -205,6 +209,7 @@ impl<'t> Parser<'t> {
         Ok(Expression::Compound(compound))
     }
 
+    /// Parses an optional `relation simple`. Returns None if no relation comes next.
     #[cycle(expressions)]
     fn comparison(&self, at: usize, room: u32) -> ParsedItem<Comparison>
         requires { at ≤ length self.now.tokens.now }
@@ -220,8 +225,8 @@ impl<'t> Parser<'t> {
         Ok(Some((Comparison { relation, right }, next)))
     }
 
-    /// Returns the factor of one token at `at`. Returns None if that token is neither an identifier
-    /// nor an integer, or if the next token binds at this level or more strongly.
+    /// Returns the factor that consists of the token at `at`. Returns None if that token is neither an identifier nor
+    /// an integer. Also returns None if the next token binds it with the strength `level` or more strongly.
     #[inline(always)]
     fn lone(&self, at: usize, level: u8) -> Option<Factor>
         requires within { at ≤ length self.now.tokens.now }
@@ -332,6 +337,7 @@ impl<'t> Parser<'t> {
         }
     }
 
+    /// Parses an optional `("+" | "-" | OR) term`. Returns None if no such operator comes next.
     #[cycle(expressions)]
     fn addend(&self, at: usize, room: u32) -> ParsedItem<Addend>
         requires { at ≤ length self.now.tokens.now }
@@ -363,6 +369,7 @@ impl<'t> Parser<'t> {
         Ok((Term { first, more }, next))
     }
 
+    /// Parses an optional `("*" | DIV | MOD | "&") factor`. Returns None if no such operator comes next.
     #[cycle(expressions)]
     fn multiplier(&self, at: usize, room: u32) -> ParsedItem<Multiplier>
         requires { at ≤ length self.now.tokens.now }
@@ -378,6 +385,7 @@ impl<'t> Parser<'t> {
         Ok(Some((Multiplier { operator, factor }, next)))
     }
 
+    /// Parses `identifier selector | integer | "(" expression ")" | "~" factor`.
     #[cycle(expressions)]
     #[inline(never)]
     fn factor(&self, at: usize, room: u32) -> Parsed<Factor>
@@ -490,6 +498,7 @@ fn binding(next: Option<TokenKind>) -> u8
     }
 }
 
+/// Returns the relation that this token is, or None if it is none.
 fn relation_of(kind: TokenKind) -> Option<Relation>
     ensures { IsMarkOf relation_mark BY_COMPARISON kind result }
 {
@@ -504,6 +513,7 @@ fn relation_of(kind: TokenKind) -> Option<Relation>
     }
 }
 
+/// Returns the operator `+`, `-` or OR that this token is, or None if it is none.
 fn add_operator_of(kind: TokenKind) -> Option<AddOperator>
     ensures { IsMarkOf add_mark BY_ADDITION kind result }
 {
@@ -515,6 +525,7 @@ fn add_operator_of(kind: TokenKind) -> Option<AddOperator>
     }
 }
 
+/// Returns the operator `*`, DIV, MOD or `&` that this token is, or None if it is none.
 fn multiply_operator_of(kind: TokenKind) -> Option<MultiplyOperator>
     ensures { IsMarkOf multiply_mark BY_MULTIPLICATION kind result }
 {

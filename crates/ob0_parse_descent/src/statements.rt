@@ -185,6 +185,7 @@ impl<'t> Parser<'t> {
         Ok((elsifs, next))
     }
 
+    /// Parses an optional `ELSIF expression THEN sequence`. Returns None if ELSIF doesn't come next.
     #[cycle(statements)]
     fn elsif(&self, at: usize, room: u32) -> ParsedItem<Elsif>
         requires { at ≤ length self.now.tokens.now }
@@ -242,7 +243,7 @@ impl<'t> Parser<'t> {
     }
 }
 
-/// Returns whether an expression may begin with this token.
+/// Returns true if an expression may begin with this token.
 fn opens_expression(first: Option<TokenKind>) -> bool
     ensures { result ≡ opens_expression first }
 {

@@ -9,7 +9,8 @@ use Rattle.ob0_language_names.specs.Occurrences.{Capture, at_declaration, at_occ
 use Rattle.ob0_scope_table.specs.Resolution.{span_at}
 use Rattle.ob0_refs.specs.Places.{declaring_span}
 
--- returns the span of the occurrence with this number; None if there is none
+-- returns the span of the occurrence with this number, counted from 0; None if there is no such
+-- occurrence
 abbrev pub occurrence_span : Parsed → ℕ → Option Span
 occurrence_span m k = option_map (span_at m.source) (slice_get (occurrences (tree_of m)) k)
 
@@ -18,13 +19,14 @@ abbrev pub or_start : Option Span → Span
 or_start None = record { start = 0; end = 0 }
 or_start (Some span) = span
 
--- returns the span of a conflict: the identifier that declares `d`, or the occurrence with this number
+-- returns the span of a conflict of a new name for `d`: of the identifier that declares `d`, or of
+-- the occurrence with this number
 abbrev pub capture_span : Parsed → ℕ → Capture → Span
 capture_span m d at_declaration = or_start (declaring_span m d)
 capture_span m d (at_occurrence k) = or_start (occurrence_span m k)
 
--- Returns the span of the first conflict of a new name, or None if there is none. If another declaration of its block
--- has the name, it is the span of the identifier that declares `d`. Otherwise it is the span of the first occurrence
--- that would be bound to another declaration.
+-- Returns the span of the first conflict of the name `new` for `d`, or None if there is none. If
+-- another declaration of the block has the name, it is the span of the identifier that declares
+-- `d`. Otherwise it is the span of the first occurrence that would be bound to another declaration.
 abbrev pub captured_span : Parsed → ℕ → Name → Option Span
 captured_span m d new = option_map (capture_span m d) (first_captured (named_tree_of m) d new)

@@ -1,4 +1,4 @@
--- The values of the definitions that represent the code's declarations.
+-- The declarations and parameters of the code as values of the definitions.
 -- Rule: none; for contracts: what values of the code mean.
 use Rattle.std.specs.Prelude.{List, map, Option}
 use Rattle.ob0_types_table.specs.declared.known.Formal as formal
@@ -9,10 +9,11 @@ use Rattle.ob0_language_types.specs.Expressions.{Object}
 use Rattle.ob0_language_types.specs.WellTyped.{Signature}
 use Rattle.ob0_language_values.specs.Values.{Shape}
 
--- returns the object that a declaration of the table stands for
+-- returns a declaration of the code's table as an object of the definitions; None for a constant
+-- with a fault
 abbrev pub object_of : Tables → declaration.Object → Option (Object Shape Signature)
 object_of t o = object_in (shapes_of t) o
 
--- returns the parameters of a procedure of the table, by mode and type
+-- returns a procedure's parameters in the code's table as a signature of the definitions
 abbrev pub signature_in : Tables → List formal.Formal → Signature
 signature_in t fs = map (formal_in (shapes_of t)) fs

@@ -27,7 +27,7 @@ abbrev pub is_by_place : Mode → Bool
 is_by_place by_value = false
 is_by_place by_place = true
 
--- returns a formal parameter in the form for hover texts
+-- returns a formal parameter with this name in the form for hover texts
 abbrev pub parameter_hover : Name → Formal → HoverParameter
 parameter_hover name f =
     record { by_place = is_by_place f.mode; name = name; of = type_text f.shape }

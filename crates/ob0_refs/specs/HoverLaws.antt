@@ -10,7 +10,8 @@ use Rattle.ob0_language_names.specs.Parts.{formal_names, formal_sections, module
 use Rattle.ob0_scope_table.specs.Resolution.{declaring_only, token_declaring}
 use Rattle.ob0_refs.specs.Declarations.{names_after}
 
--- Returns the headings of procedures in text order: each name with the names of its formal parameters.
+-- Returns the headings of procedures in text order: each procedure's name with the names of its
+-- formal parameters.
 abbrev mutual
   -- returns the headings in a block
   pub block_headings : Tree ℕ block → List (ℕ × List ℕ)
@@ -26,14 +27,15 @@ abbrev mutual
   procedure_headings (declares_procedure x fs b closing) =
       (x, formal_names (formal_sections fs)) ∷ block_headings b
 
--- holds if the first names declared after the procedure with this heading are the names of its parameters
+-- holds if the first names declared after this procedure are the names of its parameters; a heading
+-- is the procedure's token with its parameters' tokens
 pub record HasParametersAfter (m : Parsed) (heading : ℕ × List ℕ) : Type 0 where
   pub ordinal : ℕ
   pub declares : token_declaring (declaring_only (identifiers role.Declaring (tree_of m))) ordinal
       ≡ Some heading.0
   pub following : take (length heading.1) (names_after m ordinal) ≡ map (text_at m.source) heading.1
 
--- After each procedure of a module, the first names declared are the names of its parameters.
+-- The first names declared after each procedure's name are the names of its parameters, in order.
 abbrev pub ParametersFollow : Type 0
 ParametersFollow =
     (m : Parsed) → All (HasParametersAfter m) (block_headings (module_block (tree_of m)))

@@ -22,7 +22,7 @@ abbrev pub fields_count : FieldShapes → ℕ
 fields_count no_field_shape = 0
 fields_count (next_field_shape x s rest) = fields_count rest + 1
 
--- returns a type's text; an array is ARRAY n OF T, a record is RECORD with k fields
+-- returns a type's text; an array is `ARRAY n OF T`, and a record is `RECORD with k fields`
 abbrev pub type_text : Shape → List ℕ
 type_text integer_shape = codes "INTEGER"
 type_text boolean_shape = codes "BOOLEAN"
@@ -30,19 +30,20 @@ type_text (array_shape k n s) = codes "ARRAY " ++ (decimal n ++ (codes " OF " ++
 type_text (record_shape k fs) =
     codes "RECORD with " ++ (decimal (fields_count fs) ++ codes " fields")
 
--- returns the text of a constant: CONST c = V
+-- returns the hover text of a constant: `CONST c = V`
 abbrev pub constant_text : List ℕ → Scalar → List ℕ
 constant_text name value = codes "CONST " ++ (name ++ (codes " = " ++ scalar_text value))
 
--- returns the text of a type: TYPE t = T
+-- returns the hover text of a type declaration, given its name and the text of its type: `TYPE t =
+-- T`
 abbrev pub named_type_text : List ℕ → List ℕ → List ℕ
 named_type_text name of = codes "TYPE " ++ (name ++ (codes " = " ++ of))
 
--- returns the text of a variable: VAR x: T
+-- returns the hover text of a variable, given its name and the text of its type: `VAR x: T`
 abbrev pub variable_text : List ℕ → List ℕ → List ℕ
 variable_text name of = codes "VAR " ++ (name ++ (codes ": " ++ of))
 
--- returns the text of a field: FIELD f: T
+-- returns the hover text of a field, given its name and the text of its type: `FIELD f: T`
 abbrev pub field_text : List ℕ → List ℕ → List ℕ
 field_text name of = codes "FIELD " ++ (name ++ (codes ": " ++ of))
 
@@ -71,11 +72,11 @@ abbrev pub parameters_text : List HoverParameter → List ℕ
 parameters_text [] = []
 parameters_text (p ∷ ps) = parameter_text p ++ further_text ps
 
--- returns the text of a procedure: PROCEDURE p(a: T; VAR b: T)
+-- returns the hover text of a procedure: `PROCEDURE p(a: T; VAR b: T)`
 abbrev pub procedure_text : List ℕ → List HoverParameter → List ℕ
 procedure_text name ps =
     codes "PROCEDURE " ++ (name ++ (codes "(" ++ (parameters_text ps ++ codes ")")))
 
--- returns the text of a predeclared name: `predeclared N`
+-- returns the hover text of a predeclared name: `predeclared N`
 abbrev pub predeclared_text : List ℕ → List ℕ
 predeclared_text name = codes "predeclared " ++ name

@@ -25,8 +25,9 @@ FieldsAreDefined =
     → IsOnField r offset span k index
     → is_some (definition_at r offset) ≡ true
 
--- Holds if renaming at a place finds a field of the record `k` there. The place isn't on a name. The references,
--- including the declaration, are the identifiers that renaming changes, and the place's identifier is among them.
+-- Holds if renaming at a place finds a field of the record `k` there, and the place isn't on a
+-- name. Renaming changes exactly the references, including the declaration, and the place's
+-- identifier is among them.
 pub record IsRenamedThere (r : Resolution) (offset : ℕ) (span : Span) (k : ℕ) : Type 0 where
   pub token : ℕ
   pub no_name : name_on r.module_read offset ≡ None

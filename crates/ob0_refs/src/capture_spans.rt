@@ -9,7 +9,8 @@ use ob0_scan::Span;
 use ob0_scope::FirstCapture;
 use ob0_scope_table::{Resolved, token_span};
 
-/// Returns the span of a conflict: the span of the identifier that declares the declaration, or of an occurrence.
+/// Returns the span of a conflict of a new name for a declaration: the span of the identifier that declares it, or of
+/// an occurrence. An identifier that isn't found gives an empty span at the text's start.
 pub(crate) fn capture_span(names: &Resolved, declaration: usize, capture: FirstCapture) -> Span
     ensures { result ≡ capture_span names.now.module_read declaration (place_of capture) }
 {
@@ -19,6 +20,7 @@ pub(crate) fn capture_span(names: &Resolved, declaration: usize, capture: FirstC
     }
 }
 
+/// Returns the span, or an empty span at the text's start for None.
 fn or_start(span: Option<Span>) -> Span
     ensures { result ≡ or_start span }
 {
@@ -28,6 +30,7 @@ fn or_start(span: Option<Span>) -> Span
     }
 }
 
+/// Returns the span of the occurrence with this number, counted from 0, or None if there is none.
 fn occurrence_span(names: &Resolved, k: usize) -> Option<Span>
     ensures { result ≡ occurrence_span names.now.module_read k }
 {

@@ -36,7 +36,7 @@ pub(crate) fn references_to(
     spans_of(alloc, names.tokens(), &found)
 }
 
-/// Returns the spans of tokens, in the same order.
+/// Returns the spans of these tokens, in the same order.
 pub(crate) fn spans_of(
     alloc: Global,
     tokens: &Tokens,

@@ -2,7 +2,7 @@
 
 ghost use Rattle.ob0_refs.specs.HoverLaws.{ParametersFollow};
 
-/// Proves that the first names declared after a procedure are the names of its parameters, in order.
+/// Proves that the first names declared after a procedure's name are the names of its parameters, in order.
 pub fn parameters_follow()
     ensures { ParametersFollow }
 {}

@@ -47,6 +47,7 @@ pub(crate) fn constant_text(alloc: Global, name: &str, value: Scalar) -> Result<
     }
 }
 
+/// Returns the word TRUE or FALSE.
 fn truth_word(b: bool) -> &'static str
     ensures { result.now ≡ truth_text b }
 {
@@ -114,6 +115,7 @@ fn push_parameter(text: &mut String, parameter: &Parameter<'_>) -> Result<(), Al
     text.push_str(parameter.of.as_str())
 }
 
+/// Returns `VAR ` for a VAR parameter, otherwise the empty text.
 fn by_word(by_place: bool) -> &'static str
     ensures { result.now ≡ by_text by_place }
 {

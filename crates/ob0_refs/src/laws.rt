@@ -7,8 +7,7 @@ pub fn fields_are_defined()
     ensures { FieldsAreDefined }
 {}
 
-/// Proves that renaming at a place finds the same field as the questions do, and changes exactly the field's
-/// references.
+/// Proves that if a place is on a field, renaming finds that field there and changes exactly its references.
 pub fn fields_are_renamed_there()
     ensures { FieldsAreRenamedThere }
 {}

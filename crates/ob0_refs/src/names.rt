@@ -17,6 +17,7 @@ pub(crate) fn at_name(names: &Resolved, name: Named) -> At
     }
 }
 
+/// Returns Predeclared for the ordinals 0 to 6, and the declaration of the text for all others.
 fn of_ordinal(ordinal: usize) -> Of
     ensures { result ≡ of_ordinal ordinal }
 {

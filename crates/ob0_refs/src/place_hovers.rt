@@ -33,6 +33,7 @@ pub fn hover(
     }
 }
 
+/// Returns the hover text of an identifier with this meaning. Returns None if its declaration isn't found.
 fn meant_hover(
     alloc: Global,
     well_typed: &WellTyped<'_>,
@@ -81,6 +82,7 @@ fn field_hover(
     }
 }
 
+/// Returns the hover text of a field's identifier, given its token and the field's type.
 fn typed_hover(
     alloc: Global,
     known: &DeclarationTable,

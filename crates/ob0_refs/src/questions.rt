@@ -33,6 +33,7 @@ pub fn at(well_typed: &WellTyped<'_>, offset: usize) -> Option<At>
     }
 }
 
+/// Returns the answer about an identifier: its span and the thing that it refers to.
 fn at_meant(well_typed: &WellTyped<'_>, found: Identified) -> At
     ensures { result ≡ at_meant well_typed.now.module_read found.token found.means }
 {
@@ -43,6 +44,7 @@ fn at_meant(well_typed: &WellTyped<'_>, found: Identified) -> At
     }
 }
 
+/// Returns the answer about a field's identifier: its span, its record and its index in the record.
 fn at_field(well_typed: &WellTyped<'_>, field: FieldName) -> At
     ensures { result ≡ at_field well_typed.now.module_read field }
 {
@@ -78,6 +80,7 @@ pub fn renamable(well_typed: &WellTyped<'_>, offset: usize) -> Option<Span>
     }
 }
 
+/// Returns the span of an identifier, or None if its name is predeclared.
 fn renamable_meant(well_typed: &WellTyped<'_>, found: Identified) -> Option<Span>
     ensures { result ≡ renamable_meant well_typed.now.module_read found.token found.means }
 {
@@ -106,6 +109,8 @@ pub fn definition(well_typed: &WellTyped<'_>, offset: usize) -> Option<Span>
     }
 }
 
+/// Returns the span of the identifier that declares the name or field that an identifier refers to. Returns None for a
+/// predeclared name.
 fn declared_meant(well_typed: &WellTyped<'_>, found: Identified) -> Option<Span>
     ensures { result ≡ declared_meant well_typed.now.module_read found.token found.means }
 {
@@ -116,6 +121,7 @@ fn declared_meant(well_typed: &WellTyped<'_>, found: Identified) -> Option<Span>
     }
 }
 
+/// Returns the span of the identifier that declares a field, or None if it isn't found.
 fn field_declared(well_typed: &WellTyped<'_>, field: FieldName) -> Option<Span>
     ensures { result ≡ field_declared well_typed.now.module_read field }
 {
@@ -144,6 +150,8 @@ pub fn references(
     }
 }
 
+/// Returns the spans of the references to the name or field that an identifier refers to. The declaring identifier is
+/// among them if `include` is true.
 fn named_meant(
     alloc: Global,
     well_typed: &WellTyped<'_>,
@@ -160,6 +168,8 @@ fn named_meant(
     }
 }
 
+/// Returns the spans of a field's identifiers, in text order. The declaring identifier is among them if `include` is
+/// true.
 fn field_named(
     alloc: Global,
     well_typed: &WellTyped<'_>,
@@ -194,7 +204,7 @@ fn field_references(
     Ok(uses)
 }
 
-/// Returns all tokens except `token`. Without a `token`, returns all.
+/// Returns the list `tokens` without `token`, or all of it if `token` is None.
 fn without(
     alloc: Global,
     token: Option<usize>,
@@ -211,6 +221,7 @@ fn without(
     }
 }
 
+/// Returns the list `tokens` without `token`.
 fn others_than(alloc: Global, token: usize, tokens: &[usize]) -> Result<Vec<usize>, AllocError>
     ensures { IfOk result (λ others. others.items ≡ other_tokens (Some token) tokens.now) }
 {

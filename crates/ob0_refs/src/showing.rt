@@ -48,6 +48,7 @@ pub(crate) fn name_text(
     }
 }
 
+/// Returns the hover text of a declaration with this object. Returns None for a constant with a fault.
 fn object_text(
     alloc: Global,
     known: &DeclarationTable,
@@ -72,6 +73,7 @@ fn object_text(
     }
 }
 
+/// Returns the hover text of a type declaration: its name and the text of its type.
 fn type_line(
     alloc: Global,
     known: &DeclarationTable,
@@ -85,6 +87,7 @@ fn type_line(
     named_type_text(alloc, name, of.as_str())
 }
 
+/// Returns the hover text of a variable: its name and the text of its type.
 fn variable_line(
     alloc: Global,
     known: &DeclarationTable,
@@ -113,6 +116,8 @@ pub(crate) fn field_line(
     format!(in alloc; "FIELD {name}: {of}")
 }
 
+/// Returns the hover text of a procedure: its name and its parameters, whose names are the next ones declared in the
+/// text.
 fn procedure_line(
     alloc: Global,
     known: &DeclarationTable,
@@ -171,6 +176,7 @@ fn parameters_of<'s>(
     Ok(found)
 }
 
+/// Returns a parameter with this name for hover texts, with the text of its type.
 fn parameter_of<'s>(
     alloc: Global,
     known: &DeclarationTable,

@@ -32,6 +32,7 @@ pub(crate) fn type_text(
     }
 }
 
+/// Returns the text of an array type, with the text of its element type.
 #[cycle(types)]
 fn of_array(
     alloc: Global,

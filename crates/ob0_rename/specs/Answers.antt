@@ -1,4 +1,4 @@
--- Defines the answer to the renaming of a declaration or a field: edits, or a refusal.
+-- The answer to the renaming of a declaration or a field: edits, or a refusal.
 -- Rule: docs/PROTOCOL.md, Requests on documents 6, Refusals of edits.
 use Rattle.std.specs.Prelude.{◌≡◌, ◌⊎◌, ℕ, ◌<◌, ◌≤◌, List, Some, Result, Ok, Err, IfErr, Vec, length, map, true}
 use Rattle.std.specs.Str.{chars}
@@ -21,8 +21,8 @@ use Rattle.ob0_edits_tokens.specs.Replaced.{edit_at, parts}
 use Rattle.ob0_language_fields.specs.Renaming.{FieldFree, field_renamed, is_duplicate_field}
 use Rattle.ob0_rename.specs.Renaming.{NamesDeclaration, MeansField, Renaming, field_tokens_to_rename, is_declared_as, meant, module_of, nothing, occurrence_range, other_field_range, other_range, predeclared, text_with, tokens_to_rename, named_tree}
 
--- States that the edits write the new name at these tokens and change nothing else. Made all at
--- once, they leave a text of this tree. The tree is well-typed and has the same runs as the module.
+-- Holds if the edits write the new name at these tokens and change nothing else. Made all at once,
+-- they leave a text of this tree. The tree is well-typed and has the same runs as the module.
 pub record WritesName (r : Renaming) (tokens : List ℕ) (tree : Tree Name module_text)
     (edits : List Edit) : Type 0 where
   pub short : length (text_with r tokens) ≤ max_text
@@ -37,16 +37,16 @@ pub record WritesName (r : Renaming) (tokens : List ℕ) (tree : Tree Name modul
 
 -- ---- for a declaration
 
--- States that the edits write the new name everywhere for the declaration d, and leave the renamed
--- module.
+-- Holds if the edits write the new name at every token of the declaration `d`, and leave the
+-- renamed module.
 pub record Renames (r : Renaming) (d : ℕ) (edits : List Edit) : Type 0 where
   pub identifier : IsIdentifier r.new
   pub free : Free (named_tree r) d r.new
   pub writes : WritesName r (tokens_to_rename (module_of r) d r.new)
       (renamed (named_tree r) d r.new) edits
 
--- Holds if this is the refusal for the declaration d. If there are several reasons, it is the first
--- in this order.
+-- Holds if this is the refusal for the declaration `d`. If there are several reasons, it is the
+-- first in the order of these cases.
 abbrev pub IsRefusedTo : Renaming → ℕ → EditRefusal → Type 0
 IsRefusedTo r d refusal.NoName = ⊥
 IsRefusedTo r d refusal.Predeclared = ⊥
@@ -69,24 +69,24 @@ IsRefusedTo r d refusal.Shadowed = ⊥
 IsRefusedTo r d refusal.CommentInside = ⊥
 IsRefusedTo r d refusal.Memory = ⊥
 
--- Holds if this is the answer for the declaration d: edits or the refusal. If an allocation fails,
--- the answer may be `Memory` instead of either.
+-- Holds for edits if they rename the declaration `d`. Holds for the refusal that applies, and for
+-- `Memory`.
 abbrev pub AnswersDeclaration : Renaming → ℕ → Result (Vec Edit Global) EditRefusal → Type 0
 AnswersDeclaration r d (Ok edits) = Renames r d edits.items
 AnswersDeclaration r d (Err why) = (why ≡ refusal.Memory) ⊎ IsRefusedTo r d why
 
 -- ---- for a field
 
--- States that the edits write the new name at the declaration and at all selections of the field f
--- of the record k. They leave the module with that field renamed.
+-- Holds if the edits write the new name at the declaration and at all selections of the field `f`
+-- of the record `k`. They leave the module with that field renamed.
 pub record RenamesField (r : Renaming) (k : ℕ) (f : Name) (edits : List Edit) : Type 0 where
   pub identifier : IsIdentifier r.new
   pub free : FieldFree (named_tree r) k f r.new
   pub writes : WritesName r (field_tokens_to_rename r.names k f r.new)
       (field_renamed (named_tree r) k f r.new) edits
 
--- Holds if this is the refusal for the field. Only another field of its record conflicts with the
--- new name.
+-- Holds if this is the refusal for the field `f` of the record `k`. Only another field of this
+-- record conflicts with the new name.
 abbrev pub IsRefusedToField : Renaming → ℕ → Name → EditRefusal → Type 0
 IsRefusedToField r k f refusal.NoName = ⊥
 IsRefusedToField r k f refusal.Predeclared = ⊥
@@ -105,21 +105,21 @@ IsRefusedToField r k f refusal.Shadowed = ⊥
 IsRefusedToField r k f refusal.CommentInside = ⊥
 IsRefusedToField r k f refusal.Memory = ⊥
 
--- Holds if this is the answer for the field: edits or the refusal. If an allocation fails, the
--- answer may be `Memory` instead of either.
+-- Holds for edits if they rename the field `f` of the record `k`. Holds for the refusal that
+-- applies, and for `Memory`.
 abbrev pub AnswersForField : Renaming → ℕ → Name → Result (Vec Edit Global) EditRefusal → Type 0
 AnswersForField r k f (Ok edits) = RenamesField r k f edits.items
 AnswersForField r k f (Err why) = (why ≡ refusal.Memory) ⊎ IsRefusedToField r k f why
 
 -- ---- by the identifier at the place
 
--- holds if the declaration or field at the place is refused the new name for this reason
+-- holds if this refusal applies to the declaration or field at the place
 abbrev pub IsRefusedToNamed : Renaming → EditRefusal → Type 0
 IsRefusedToNamed r why =
     ((d : ℕ) × NamesDeclaration r d × IsRefusedTo r d why)
     ⊎ ((k : ℕ) × ((f : Name) × MeansField r k f × IsRefusedToField r k f why))
 
--- holds if there are no edits, for this reason
+-- holds if this is the refusal of the renaming
 abbrev pub IsRefused : Renaming → EditRefusal → Type 0
 IsRefused r refusal.NoName = meant r ≡ nothing
 IsRefused r refusal.Predeclared = meant r ≡ predeclared
@@ -138,13 +138,14 @@ AreEdits r edits =
     ((d : ℕ) × NamesDeclaration r d × Renames r d edits)
     ⊎ ((k : ℕ) × ((f : Name) × MeansField r k f × RenamesField r k f edits))
 
--- Holds if this is the answer: edits, the refusal, or `Memory` if an allocation failed.
+-- Holds for edits if they rename the declaration or field at the place. Holds for the refusal of
+-- the renaming, and for `Memory`.
 abbrev pub RenameAnswers : Renaming → Result (Vec Edit Global) EditRefusal → Type 0
 RenameAnswers r (Ok edits) = AreEdits r edits.items
 RenameAnswers r (Err why) = (why ≡ refusal.Memory) ⊎ IsRefused r why
 
--- States when an allocation can fail: a declaration or a field is at the place, and the new name is
--- an identifier.
+-- Holds if a declaration or a field is at the place, and the new name is an identifier. Only then
+-- can an allocation fail.
 pub record AllocatesOnly (r : Renaming) : Type 0 where
   pub identifier : IsIdentifier r.new
   pub some : ¬ (meant r ≡ nothing)
@@ -152,11 +153,12 @@ pub record AllocatesOnly (r : Renaming) : Type 0 where
 
 -- ---- renaming to the present name
 
--- holds if the result can't be an error other than a failed allocation
+-- holds if the result is edits or a failed allocation
 abbrev pub OnlyMemory : Result (Vec Edit Global) EditRefusal → Type 0
 OnlyMemory result = IfErr result (λ why. why ≡ refusal.Memory)
 
--- holds if a declaration or field that already has the new name isn't refused
+-- holds if a declaration or field that already has the new name isn't refused: the result is then
+-- edits or a failed allocation
 abbrev pub TakesOwnName : Renaming → Result (Vec Edit Global) EditRefusal → Type 0
 TakesOwnName r result =
     ((d : ℕ)

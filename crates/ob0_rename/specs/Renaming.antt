@@ -1,5 +1,5 @@
--- Defines the renaming of the declaration or the record field at a place of a text: the places of
--- the new name, and its conflicts.
+-- The renaming of the declaration or the record field at a place of a text: the places of the new
+-- name, and its conflicts.
 -- Rule: docs/PROTOCOL.md, Requests on documents 6, Refusals of edits.
 use Rattle.std.specs.Prelude.{◌≡◌, ℕ, Bool, true, false, nat_lt, if◌then◌else◌, List, [], Option, Some, None, option_and_then, option_map, slice_get}
 use Rattle.ob0_scan.specs.Scanned.{Scanned}
@@ -32,7 +32,7 @@ pub record Renaming : Type 0 where
   pub place : Position
   pub new : Name
 
--- returns the renaming at a place of a text that is this module
+-- returns the renaming to `new` at a place of a text, which is the text of this module
 abbrev pub renaming_of : counting.Unit → List ℕ → Resolution → Position → List ℕ → Renaming
 renaming_of unit text names place new =
     record { unit = unit; text = text; names = names; place = place; new = new }
@@ -41,7 +41,7 @@ renaming_of unit text names place new =
 abbrev pub module_of : Renaming → read.Parsed
 module_of r = r.names.module_read
 
--- returns the module's tree over names
+-- returns the module's tree, with texts as its names
 abbrev pub named_tree : Renaming → Tree Name module_text
 named_tree r = read.named_tree_of (module_of r)
 
@@ -61,57 +61,57 @@ pub data Target : Type 0 where
 abbrev pub by_ordinal : ℕ → Target
 by_ordinal ordinal = if nat_lt ordinal predeclared_count then predeclared else declaration ordinal
 
--- returns the target of an identifier of a field, if there is one
+-- returns the target for an identifier of a field, or `nothing` for None
 abbrev pub by_token : Scanned → Option FieldName → Target
 by_token source None = nothing
 by_token source (Some x) = field_of x.owner (text_at source x.token)
 
--- returns the target of the name at the place, or otherwise of the field
+-- returns the target for the name at a place, or for the field there if there is no name
 abbrev pub meant_by : Scanned → Option named.Named → Option FieldName → Target
 meant_by source (Some n) f = by_ordinal n.ordinal
 meant_by source None f = by_token source f
 
--- returns the target of the identifier at an offset: a name of the module, or otherwise a field
+-- returns the target of the identifier at a byte offset: a name of the module, or otherwise a field
 abbrev pub meant_at : Resolution → ℕ → Target
 meant_at names offset =
     meant_by names.module_read.source (name_on names.module_read offset) (field_at names offset)
 
--- returns the target of the renaming
+-- returns the target of the identifier at the renaming's place
 abbrev pub meant : Renaming → Target
 meant r = meant_at r.names (offset_of (width_of r.unit) r.text r.place)
 
--- holds if the target is the declaration with this ordinal
+-- holds if the renaming's target is the declaration with this ordinal
 abbrev pub NamesDeclaration : Renaming → ℕ → Type 0
 NamesDeclaration r d = meant r ≡ declaration d
 
--- holds if the target is the field f of the record with the ordinal k
+-- holds if the renaming's target is the field `f` of the record with the ordinal `k`
 abbrev pub MeansField : Renaming → ℕ → Name → Type 0
 MeansField r k f = meant r ≡ field_of k f
 
 -- ---- the places of the new name
 
--- returns the token that declares the object with an ordinal; None for a predeclared name
+-- returns the token that declares the object with this ordinal; None for a predeclared name
 abbrev pub declaring_token : read.Parsed → ℕ → Option ℕ
 declaring_token m ordinal =
     token_declaring (declaring_only (identifiers role.Declaring (read.tree_of m))) ordinal
 
--- true if the declaration has this name
+-- returns true if the declaration `d` has the name `new`
 abbrev pub is_declared_as : read.Parsed → ℕ → Name → Bool
 is_declared_as m d new =
     elim (declaring_token m d)
     [ Some token ↦ same_name (text_at m.source token) new | None ↦ false ]
 
 -- Returns the tokens of the declaration's name, including the declaring one and closing names. The
--- list is empty if the new name is the old one.
+-- list is empty if the declaration already has the name `new`.
 abbrev pub tokens_to_rename : read.Parsed → ℕ → Name → List ℕ
 tokens_to_rename m d new = if is_declared_as m d new then [] else tokens_bound m d true
 
--- Returns the tokens that declare or select the field f of the record k. The list is empty if the
--- field already has the new name.
+-- Returns the tokens that declare or select the field `f` of the record `k`. The list is empty if
+-- the field already has the name `new`.
 abbrev pub field_tokens_to_rename : Resolution → ℕ → Name → Name → List ℕ
 field_tokens_to_rename names k f new = if same_name new f then [] else field_tokens names k f
 
--- returns the text with the new name at some tokens, in bytes
+-- returns the text with the new name at these tokens, in bytes
 abbrev pub text_with : Renaming → List ℕ → List ℕ
 text_with r tokens = with_text_at (module_of r).source tokens r.new
 
@@ -121,8 +121,8 @@ text_with r tokens = with_text_at (module_of r).source tokens r.new
 abbrev pub token_range : Renaming → ℕ → Range
 token_range r token = range_of (width_of r.unit) r.text (span_at (module_of r).source token)
 
--- returns the range of the other declaration of the block that has the new name; None if there is
--- none
+-- returns the range of the identifier that declares another object with the new name in the block
+-- of `d`; None if there is none
 abbrev pub other_range : Renaming → ℕ → Option Range
 other_range r d =
     option_map (token_range r)
@@ -133,7 +133,8 @@ other_range r d =
 abbrev pub other_field_range : Renaming → ℕ → Option Range
 other_field_range r k = option_map (token_range r) (declaring_field (module_of r) k r.new)
 
--- returns the range of the occurrence with this number, counted from 0 in text order
+-- returns the range of the occurrence with this number, counted from 0 in text order; None if there
+-- is none
 abbrev pub occurrence_range : Renaming → ℕ → Option Range
 occurrence_range r k =
     option_map (token_range r) (slice_get (occurrences (read.tree_of (module_of r))) k)

@@ -19,8 +19,8 @@ use ob0_text::{Range, TextStore};
 use ob0_types::{Identified, WellTyped, meant_at};
 use std::alloc::{AllocError, Global};
 
-/// Returns the identifier at a place, and its meaning; a field's name is spelled as an identifier.
-/// None if no name or field is at the place.
+/// Returns the identifier at a byte offset, and its meaning. A field's name is spelled as an identifier. Returns None
+/// if there is none.
 pub(crate) fn identified(well_typed: &WellTyped<'_>, offset: usize) -> Option<Identified>
     ensures found { result ≡ meant_at well_typed.now offset }
     ensures spelled { IfSome result (λ x. IsField x.means
@@ -31,8 +31,8 @@ pub(crate) fn identified(well_typed: &WellTyped<'_>, offset: usize) -> Option<Id
     meant_at(well_typed, offset)
 }
 
-/// Returns the tokens of a declaration's name in text order. The list is empty if the declaration
-/// already has the new name.
+/// Returns the tokens of a declaration's name, in text order. The list is empty if the declaration already has the new
+/// name.
 pub(crate) fn tokens_to_rename(
     alloc: Global,
     names: &Resolved,

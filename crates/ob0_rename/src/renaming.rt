@@ -101,7 +101,7 @@ fn rename_declaration<T: TextStore>(
     }
 }
 
-/// Returns the refusal of a name that has this conflict.
+/// Returns the refusal for this conflict of the new name, with its range.
 fn refusal_of<T: TextStore>(store: &T, names: &Resolved, capture: FirstCapture) -> EditRefusal
     ensures duplicate { (other token : ℕ) → capture ≡ Duplicate other
         → declaring_token names.now.module_read other ≡ Some token

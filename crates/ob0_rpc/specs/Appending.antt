@@ -19,8 +19,8 @@ abbrev pub AreReadBack : List Data → Type 0
 AreReadBack [] = ⊤
 AreReadBack (value ∷ values) = IsReadBack value × AreReadBack values
 
--- Returns the texts of the values with commas between them. A comma precedes the first one if
--- another value comes before it (`later`).
+-- Returns the texts of the values with commas between them. If `later` is true, a comma also
+-- precedes the first one.
 abbrev pub listed : Bool → List Data → List ℕ
 listed later [] = []
 listed later (value ∷ values) = comma_if later ++ (compact_text value ++ listed true values)
@@ -31,11 +31,12 @@ pub record Appends (value : Data) (old new : List ℕ) : Type 0 where
   pub reads : IsReadBack value
 
 -- Holds if the texts of these values are appended, with commas between them, and each reads back.
+-- If `later` is true, a comma also precedes the first one.
 pub record AppendsEach (later : Bool) (values : List Data) (old new : List ℕ) : Type 0 where
   pub text : new ≡ old ++ listed later values
   pub reads : AreReadBack values
 
--- Holds if the value's text is appended, after a comma unless it is the first, and reads back.
+-- Holds if the value's text is appended, after a comma if `later` is true, and reads back.
 pub record AppendsItem (later : Bool) (value : Data) (old new : List ℕ) : Type 0 where
   pub text : new ≡ old ++ (comma_if later ++ compact_text value)
   pub reads : IsReadBack value

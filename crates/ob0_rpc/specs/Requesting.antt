@@ -25,7 +25,7 @@ pub data ClientRequest : Type 0 where
   shutdown : ClientRequest
   hover : At → ClientRequest
   definition : At → ClientRequest
-  -- A request for references. The truth value says whether the declaration is also requested.
+  -- A request for references. The Bool says whether the declaration is also requested.
   references : At → Bool → ClientRequest
   prepare_rename : At → ClientRequest
   -- A request to rename the name or field at a position, with the new name.
@@ -145,7 +145,8 @@ only_by found =
 abbrev pub only_of : Data → Option (Option (List (List ℕ)))
 only_of context = if is_some (as_object context) then only_by (get (codes "only") context) else None
 
--- Returns the request for code actions with these parts, or None if one of them can't be read.
+-- Returns the request for code actions with this uri, this range and these kinds, or None if one of
+-- them can't be read.
 abbrev pub code_action_by : Option (List ℕ)
     → Option Range
     → Option (Option (List (List ℕ)))
@@ -162,7 +163,7 @@ code_action_of params =
     (option_and_then only_of (get (codes "context") params))
 
 -- Returns the indentation with these two options, or None if one of them can't be read. A level is
--- one tab or some spaces.
+-- some spaces if the Bool is true, otherwise a tab.
 abbrev pub indent_by : Option ℕ → Option Bool → Option Indent
 indent_by (Some size) (Some spaces) = Some (if spaces then Spaces (level_spaces size) else Tab)
 indent_by (Some size) None = None

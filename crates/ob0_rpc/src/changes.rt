@@ -16,7 +16,7 @@ use ob0_text::{Change, Range};
 use serde_json::Value;
 use std::alloc::{AllocError, Global};
 
-/// Returns the changes in params, or None if an entry can't be read.
+/// Returns the changes in params, or None if the list or one of its entries can't be read.
 pub fn read_changes(alloc: Global, params: Value) -> Result<Option<Vec<Change>>, AllocError>
     ensures { IfOk result (λ found. option_map (λ cs. map change_in_text cs.items) found
         ≡ changes_in (view params)) }
@@ -34,6 +34,7 @@ pub fn read_changes(alloc: Global, params: Value) -> Result<Option<Vec<Change>>,
     Ok(Some(changes))
 }
 
+/// Moves the list of changes out of params. Returns None if there is no such list.
 fn entries_of(params: Value) -> Option<Vec<Value>>
     ensures { option_map (λ v. items_view v.items) result
         ≡ option_and_then as_array (get (codes "contentChanges") (view params)) }
@@ -41,6 +42,7 @@ fn entries_of(params: Value) -> Option<Vec<Value>>
     into_list(into_member(params, "contentChanges")?)
 }
 
+/// Moves the items out of a list. Returns None if the value isn't a list.
 fn into_list(value: Value) -> Option<Vec<Value>>
     ensures { option_map (λ v. items_view v.items) result ≡ as_array (view value) }
 {

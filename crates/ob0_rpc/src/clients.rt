@@ -1,6 +1,6 @@
 //! Reads the capabilities of clients.
 //!
-//! A member counts as absent if it, or an object on the path to it, has another shape.
+//! A capability counts as absent if its value, or an object on the path to it, has another JSON type than expected.
 ghost use Rattle.std.specs.Prelude.{◌≡◌, ◌∷◌, [], codes, is_some, option_map, option_and_then};
 ghost use Rattle.serde_json.specs.Find.{as_object, as_str};
 ghost use Rattle.serde_json.specs.View.{view, items_view};
@@ -21,7 +21,7 @@ pub struct Client {
     pub takes_document_changes: bool,
 }
 
-/// Returns a client's capabilities from the params of `initialize`. Members of another shape count
+/// Returns a client's capabilities from the params of `initialize`. Members with another JSON type than expected count
 /// as absent.
 pub fn client_of(params: &Value) -> Client
     ensures { result ≡ client_in (view params.now) }
@@ -79,6 +79,7 @@ fn position_encodings(params: &Value) -> Option<&Value>
         .get("positionEncodings")
 }
 
+/// Returns true if the member is the truth value true. Any other value counts as absent.
 fn is_true(member: Option<&Value>) -> bool
     ensures { result ≡ truth_of (option_map (λ v. view v.now) member.entry) }
 {
@@ -88,6 +89,7 @@ fn is_true(member: Option<&Value>) -> bool
     }
 }
 
+/// Returns true if the member is an object.
 fn is_object(member: Option<&Value>) -> bool
     ensures { result
         ≡ is_some (option_and_then as_object (option_map (λ v. view v.now) member.entry)) }
@@ -110,6 +112,7 @@ fn counts_utf8(params: &Value) -> bool
     }
 }
 
+/// Returns true if one of the items is this text.
 fn has_text(items: &[Value], text: &str) -> bool
     ensures { result ≡ has_text text.now (items_view items.now) }
 {
@@ -121,6 +124,7 @@ fn has_text(items: &[Value], text: &str) -> bool
     false
 }
 
+/// Returns true if the item is this text.
 fn is_text(item: &Value, text: &str) -> bool
     ensures { result ≡ is_that_text text.now (as_str (view item.now)) }
 {

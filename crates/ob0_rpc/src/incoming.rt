@@ -160,6 +160,7 @@ fn read_id(alloc: Global, value: &Value) -> Result<Option<Id>, AllocError>
     }
 }
 
+/// Returns the id that a number is, or None if it isn't a whole number of 64 bits.
 fn whole_number(n: &Number) -> Option<Id>
     ensures { MatchOption result
         (is_id (number (number_view n.now)) ≡ false)

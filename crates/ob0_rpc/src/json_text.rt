@@ -23,6 +23,7 @@ pub trait WriteJson {
     /// Returns the JSON value that is written.
     ghost value: { Self → Data };
 
+    /// Appends the value's text to `out`. Fails only if an allocation fails.
     fn write(&self, out: &mut Vec<u8>) -> Result<(), AllocError>
         ensures { OnOk result (Appends (value self.now) out.old.items out.new.items) };
 }
@@ -100,6 +101,7 @@ impl<'a, W: WriteJson> WriteJson for &'a [W] {
     }
 }
 
+/// Writes the items of a list with commas between them, without brackets.
 fn write_each<W: WriteJson>(out: &mut Vec<u8>, values: &[W]) -> Result<(), AllocError>
     ensures { OnOk result
         (AppendsEach false (map W.value values.now) out.old.items out.new.items) }
@@ -112,8 +114,8 @@ fn write_each<W: WriteJson>(out: &mut Vec<u8>, values: &[W]) -> Result<(), Alloc
     Ok(())
 }
 
-/// Writes an item of a list, after a comma if `later` is true. After the first item, capacity for
-/// the other items is reserved, as if they were about as long.
+/// Writes an item of a list of `count` items, after a comma if `later` is true. After the first item, capacity for the
+/// other items is reserved, as if they were about as long.
 fn write_one_of<W: WriteJson>(
     out: &mut Vec<u8>,
     count: usize,
@@ -130,8 +132,8 @@ fn write_one_of<W: WriteJson>(
     Ok(())
 }
 
-/// Returns the capacity in bytes for the other items of a list, if they are about as long as this
-/// one.
+/// Returns the capacity in bytes to reserve for the other items of a list of `count` items, if each is about `len`
+/// bytes long. It is at most 2^26.
 fn capacity_for(count: usize, len: usize) -> usize
     ensures { result ≤ 2 ^ 26 }
 {
@@ -182,6 +184,7 @@ fn write_text(out: &mut Vec<u8>, text: &str) -> Result<(), AllocError>
     write_piece(out, b"\"")
 }
 
+/// Writes the bytes of a text. Characters that need it are written as escapes.
 pub(crate) fn write_escaped(out: &mut Vec<u8>, text: &[u8]) -> Result<(), AllocError>
     ensures { OnOk result (out.new.items ≡ out.old.items ++ escape text.now) }
 {
@@ -191,7 +194,7 @@ pub(crate) fn write_escaped(out: &mut Vec<u8>, text: &[u8]) -> Result<(), AllocE
     write_each_byte(out, text)
 }
 
-/// Returns whether no byte of a text needs an escape.
+/// Returns true only if no byte of a text needs an escape.
 fn is_plain(text: &[u8]) -> bool
     ensures plain { result ≡ true → escape text.now ≡ text.now }
 {
@@ -203,6 +206,7 @@ fn is_plain(text: &[u8]) -> bool
     true
 }
 
+/// Writes the bytes of a text one by one, as escapes if necessary.
 fn write_each_byte(out: &mut Vec<u8>, text: &[u8]) -> Result<(), AllocError>
     ensures { OnOk result (out.new.items ≡ out.old.items ++ escape text.now) }
 {

@@ -8,7 +8,7 @@ ghost use Rattle.ob0_rpc.specs.Members.{is_absent as absent, text_member, truth_
 use ob0_text::{Position, Range};
 use serde_json::Value;
 
-/// Returns whether a member is absent or null.
+/// Returns true if a member is absent or null.
 pub fn is_absent(member: Option<&Value>) -> bool
     ensures { result ≡ absent (option_map (λ v. view v.now) member.entry) }
 {
@@ -83,6 +83,7 @@ pub fn into_member(value: Value, name: &str) -> Option<Value>
     }
 }
 
+/// Moves the text out of a value. Returns None if the value isn't a text.
 fn into_text(value: Value) -> Option<String>
     ensures { option_map string_bytes result ≡ as_str (view value) }
 {

@@ -15,7 +15,7 @@ use itoa::write_digits;
 use ob0_text::{Edit, Position, Range};
 use std::alloc::AllocError;
 
-/// The number of bytes for a range's text together with the text around it, which are never longer.
+/// The number of bytes of a buffer for a range's text together with the text around it. They are never longer.
 const RANGE_CAPACITY: usize = 176;
 
 impl WriteJson for Position {
@@ -68,8 +68,8 @@ fn write_range(out: &mut Vec<u8>, start: Position, end: Position) -> Result<(), 
     write_piece(out, &buffer[at..])
 }
 
-/// Writes a range's text into the buffer so that it ends at the index `at`. Returns the index at
-/// which the text begins.
+/// Writes a range's text into the buffer so that it ends right before the index `at`. Returns the index at which the
+/// text begins.
 pub fn range_before(buffer: &mut [u8], at: usize, start: Position, end: Position) -> usize
     requires { (160 ≤ at) × (at ≤ length buffer.old) }
     ensures within { (at ≤ result + 160) × (result ≤ at) }
@@ -84,8 +84,8 @@ pub fn range_before(buffer: &mut [u8], at: usize, start: Position, end: Position
     piece_before(buffer, at_end, b"{\"end\":")
 }
 
-/// Writes a position's text into the buffer so that it ends at the index `at`. Returns the index at
-/// which the text begins.
+/// Writes a position's text into the buffer so that it ends right before the index `at`. Returns the index at which the
+/// text begins.
 fn position_before(buffer: &mut [u8], at: usize, position: Position) -> usize
     requires { (62 ≤ at) × (at ≤ length buffer.old) }
     ensures within { (at ≤ result + 62) × (result ≤ at) }
@@ -100,8 +100,8 @@ fn position_before(buffer: &mut [u8], at: usize, position: Position) -> usize
     piece_before(buffer, at_character, b"{\"character\":")
 }
 
-/// Writes a whole number's digits into the buffer so that they end at the index `at`. Returns the
-/// index at which they begin.
+/// Writes a whole number's digits into the buffer so that they end right before the index `at`. Returns the index at
+/// which they begin.
 #[inline(always)]
 fn count_before(buffer: &mut [u8], at: usize, count: u64) -> usize
     requires { (20 ≤ at) × (at ≤ length buffer.old) }
@@ -112,8 +112,8 @@ fn count_before(buffer: &mut [u8], at: usize, count: u64) -> usize
     write_digits(count, buffer, at)
 }
 
-/// Writes a piece of text into the buffer so that it ends at the index `at`. Returns the index at
-/// which the piece begins.
+/// Writes a piece of text into the buffer so that it ends right before the index `at`. Returns the index at which the
+/// piece begins.
 #[inline(always)]
 pub fn piece_before(buffer: &mut [u8], at: usize, piece: &[u8]) -> usize
     requires { (length piece.now ≤ at) × (at ≤ length buffer.old) }

@@ -64,6 +64,7 @@ pub fn request(alloc: Global, method: &str, params: &Value) -> Result<ClientRequ
     }
 }
 
+/// Returns the request about a document with this method and these params, or an error.
 fn request_of_language(
     alloc: Global,
     method: &str,
@@ -184,6 +185,7 @@ fn formatting(alloc: Global, params: &Value) -> Result<ClientRequest, RpcFault>
     Ok(ClientRequest::Formatting { uri, indent })
 }
 
+/// Returns the document and the position in params, or None if one of the two can't be read.
 fn place_of(alloc: Global, params: &Value) -> Result<Option<DocumentPosition>, AllocError>
     ensures { IfOk result (λ found. option_map at_seen found ≡ at_of (view params.now)) }
 {
@@ -197,6 +199,7 @@ fn place_of(alloc: Global, params: &Value) -> Result<Option<DocumentPosition>, A
     }
 }
 
+/// Returns the value of `includeDeclaration` in params, or None if it can't be read.
 fn includes_declaration(params: &Value) -> Option<bool>
     ensures { result
         ≡ option_and_then (truth_member (codes "includeDeclaration"))
@@ -228,8 +231,8 @@ fn spaces_of(size: u64) -> u8
     size.min(MAX_INDENT as u64).max(1) as u8
 }
 
-/// Returns the kinds that a context requests. `Some(None)` means that all kinds are requested, and
-/// `None` that they can't be read.
+/// Returns the kinds of actions that a context requests. `Some(None)` means that all kinds are requested, and `None`
+/// that the kinds can't be read.
 fn kinds_of(
     alloc: Global,
     context: Option<&Value>,
@@ -246,6 +249,7 @@ fn kinds_of(
     only_in(alloc, context.get("only"))
 }
 
+/// Returns the texts of the member `only`. `Some(None)` means that it is absent, and `None` that it can't be read.
 fn only_in(alloc: Global, only: Option<&Value>) -> Result<Option<Option<Vec<String>>>, AllocError>
     ensures { IfOk result
         (λ found. option_map kinds_seen found ≡ only_by (option_map (λ v. view v.now) only.entry)) }

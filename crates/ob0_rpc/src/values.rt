@@ -33,6 +33,7 @@ pub fn notification(alloc: Global, method: &str, params: Value) -> Result<Vec<u8
     text_of(alloc, &message)
 }
 
+/// Returns the value of the answer to a request.
 fn result_value(alloc: Global, id: &Id, value: Value) -> Result<Value, AllocError>
     ensures { IfOk result (λ v. view v ≡ result_message (id_data id.now) (view value)) }
 {
@@ -40,12 +41,14 @@ fn result_value(alloc: Global, id: &Id, value: Value) -> Result<Value, AllocErro
     json!(in alloc; {"id": id, "jsonrpc": "2.0", "result": value})
 }
 
+/// Returns the value of a notification.
 fn notification_value(alloc: Global, method: &str, params: Value) -> Result<Value, AllocError>
     ensures { IfOk result (λ v. view v ≡ notification_message method.now (view params)) }
 {
     json!(in alloc; {"jsonrpc": "2.0", "method": method, "params": params})
 }
 
+/// Returns the value of an id.
 fn id_value(alloc: Global, id: &Id) -> Result<Value, AllocError>
     ensures { IfOk result (λ v. view v ≡ id_data id.now) }
 {
@@ -56,6 +59,8 @@ fn id_value(alloc: Global, id: &Id) -> Result<Value, AllocError>
     }
 }
 
+/// Returns the text of a message. It reads back as the message if this is nested at most 127 deep and has only whole
+/// numbers.
 fn text_of(alloc: Global, message: &Value) -> Result<Vec<u8>, AllocError>
     ensures { IfOk result (λ bytes. has_float (view message.now) ≡ false
         → depth (view message.now) ≤ 127

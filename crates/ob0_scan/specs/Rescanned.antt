@@ -6,8 +6,9 @@ use Rattle.ob0_scan.specs.Scanned.{Scanned, IsScanOf}
 use Rattle.ob0_scan.specs.Reused.{Reuses, kinds, names_in, words_in}
 use Rattle.ob0_scan.specs.SameKinds.{HasSameTokens, HasSameWords}
 
--- Holds if r has the scan of the new text. A flag of r is true only if the new tokens have the
--- kinds, the names or the words of the old ones, as the flag says.
+-- Holds if `r` has the scan of the new text and its flags say nothing false. `alike` is about the
+-- kinds of all tokens, `same_names` about the identifiers, and `same_words` about kinds and
+-- spellings.
 pub record IsRescanOf (old : Scanned) (new : List ℕ) (from removed added : ℕ) (r : RescanInPlace)
     : Type 0 where
   pub scan : IsScanOf new r.rescan.tokens

@@ -45,13 +45,15 @@ pub record AreInOrder (tokens : List Token) (comments : List Span) : Type 0 wher
   pub comments_begin : IsNonDecreasingBy (λ (c : Span). c.start) comments
   pub comments_end : IsNonDecreasingBy (λ (c : Span). c.end) comments
 
--- Holds if the span lies after the removed bytes, and still fits in 32 bits when it is shifted.
+-- Holds if the span lies after the first `removed` bytes, and still fits in 32 bits when it is
+-- shifted by `added`.
 pub record IsMovable (removed added : ℕ) (span : Span) : Type 0 where
   pub following : removed ≤ span.start
   pub ordered : span.start ≤ span.end
   pub small : span.end + added < 2 ^ 32
 
--- Holds if the scanner s, which has found no fault, has taken exactly one lexeme to become t.
+-- Holds if the scanner `t` results from the scanner `s`, which has found no fault, by taking
+-- exactly one lexeme.
 pub record TakesOne (s t : Scanner) : Type 0 where
   pub kind : LexemeKind
   pub len : ℕ
@@ -59,8 +61,8 @@ pub record TakesOne (s t : Scanner) : Type 0 where
   pub tokens : t.tokens.items ≡ s.tokens.items ++ token_at kind (span_from s.at len)
   pub comments : t.comments.items ≡ s.comments.items ++ comment_at kind (span_from s.at len)
 
--- Holds if the scanner s has read tokens and comments to become t. None that begins after the
--- change begins where an old one began.
+-- Holds if the scanner `t` results from the scanner `s` by reading tokens and comments. No old
+-- token or comment began at the place of one of these that begins after the change.
 pub record ReadsOn (old : Scanned) (from removed added : ℕ) (s t : Scanner) : Type 0 where
   pub tokens : List Token
   pub comments : List Span
@@ -94,8 +96,8 @@ with_between old new removed added b = record {
       ++ map (move_span removed added) (drop b.following.comments old.comments));
 }
 
--- Holds if b has the newly read tokens and comments of the new text, and the range of old ones that
--- they replace.
+-- Holds if `b` has the newly read tokens and comments of the new text, and the range of old ones
+-- that they replace.
 pub record IsBetween (old : Scanned) (new : List ℕ) (from removed added : ℕ) (b : Between)
     : Type 0 where
   pub tokens_ordered : b.front.tokens ≤ b.following.tokens

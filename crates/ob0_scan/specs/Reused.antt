@@ -73,8 +73,8 @@ pub record NoOldBegins (s : Scanned) (place : ℕ) : Type 0 where
   pub tokens : All (λ (t : Token). t.span.start ≢ place) s.tokens
   pub comments : All (λ (c : Span). c.start ≢ place) s.comments
 
--- Holds if the span begins before the end of the change, or no old token or comment began at its
--- place.
+-- Holds if the span begins before the end of the changed bytes, or no old token or comment began at
+-- its place.
 abbrev pub IsNew : Scanned → ℕ → ℕ → ℕ → Span → Type 0
 IsNew old from removed added span =
     from + added ≤ span.start → NoOldBegins old (span.start + removed - added)

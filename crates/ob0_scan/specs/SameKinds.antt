@@ -17,7 +17,7 @@ pub record HasSameTokens (s : SameTokens) (old new : List Token) : Type 0 where
   pub front : take s.prefix (kinds new) ≡ take s.prefix (kinds old)
   pub back : drop s.new_suffix (kinds new) ≡ drop s.old_suffix (kinds old)
 
--- Holds if the tokens that s describes also have the same spellings as before.
+-- Holds if the tokens that `s` describes also have the same spellings as before.
 pub record HasSameWords (s : SameTokens) (old new : Scanned) : Type 0 where
   pub front : take s.prefix (words_in new.text new.tokens)
       ≡ take s.prefix (words_in old.text old.tokens)

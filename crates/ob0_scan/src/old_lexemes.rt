@@ -120,7 +120,7 @@ impl<'t> Pieces<'t> {
         }
     }
 
-    /// Returns whether the first token or the first comment begins at a byte offset.
+    /// Returns true if the first token or the first comment begins at a byte offset.
     pub(crate) fn begin_at(self, place: usize) -> bool
         ensures { result
             ≡ token_begins place self.entry.tokens.now
@@ -138,7 +138,7 @@ impl<'t> Pieces<'t> {
     }
 }
 
-/// Returns whether the first token begins at a byte offset.
+/// Returns true if the first token begins at a byte offset.
 fn token_begins(tokens: &[Token], place: usize) -> bool
     ensures { result ≡ token_begins place tokens.now }
 {
@@ -148,7 +148,7 @@ fn token_begins(tokens: &[Token], place: usize) -> bool
     }
 }
 
-/// Returns whether the first comment begins at a byte offset.
+/// Returns true if the first comment begins at a byte offset.
 fn comment_begins(comments: &[Span], place: usize) -> bool
     ensures { result ≡ comment_begins place comments.now }
 {
@@ -158,6 +158,7 @@ fn comment_begins(comments: &[Span], place: usize) -> bool
     }
 }
 
+/// Returns the byte offset at which the token ends, or 0 for None.
 fn token_end(token: Option<&Token>) -> usize
     ensures { result ≡ token_end (option_copied token.entry) }
 {
@@ -167,6 +168,7 @@ fn token_end(token: Option<&Token>) -> usize
     }
 }
 
+/// Returns the byte offset at which the comment ends, or 0 for None.
 fn comment_end(comment: Option<&Span>) -> usize
     ensures { result ≡ comment_end (option_copied comment.entry) }
 {

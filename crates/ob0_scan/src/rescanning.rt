@@ -79,7 +79,7 @@ pub(crate) struct Between {
 }
 
 impl Between {
-    /// Returns whether the new tokens have the same kinds as the old ones that they replace.
+    /// Returns true only if the new tokens have the same kinds as the old ones that they replace.
     fn is_alike(&self, old: &[Token]) -> bool
         requires ordered { self.now.front.tokens ≤ self.now.following.tokens }
         requires inside { self.now.following.tokens ≤ length old.now }
@@ -90,8 +90,7 @@ impl Between {
         are_alike(&self.tokens, &old[self.front.tokens..self.following.tokens])
     }
 
-    /// Returns whether the new identifiers have the same spelling as the old ones that they
-    /// replace.
+    /// Returns true only if the new identifiers have the same spelling as the old ones that they replace.
     fn has_names_of(&self, new_text: &str, old: &Tokens) -> bool
         requires ordered { self.now.front.tokens ≤ self.now.following.tokens }
         requires inside { self.now.following.tokens ≤ length old.now.tokens }
@@ -108,8 +107,7 @@ impl Between {
         )
     }
 
-    /// Returns whether the new tokens have the same kinds and spelling as the old ones that they
-    /// replace.
+    /// Returns true only if the new tokens have the same kinds and spelling as the old ones that they replace.
     fn has_words_of(&self, new_text: &str, old: &Tokens) -> bool
         requires ordered { self.now.front.tokens ≤ self.now.following.tokens }
         requires inside { self.now.following.tokens ≤ length old.now.tokens }
@@ -127,7 +125,7 @@ impl Between {
     }
 }
 
-/// Returns whether the tokens of two texts have the same kinds and spellings, one by one.
+/// Returns true only if the tokens of two texts have the same kinds and spellings, one by one.
 fn have_same_words(new_text: &[u8], new: &[Token], old_text: &[u8], old: &[Token]) -> bool
     ensures { result ≡ true → words_in new_text.now new.now ≡ words_in old_text.now old.now }
 {
@@ -142,15 +140,15 @@ fn have_same_words(new_text: &[u8], new: &[Token], old_text: &[u8], old: &[Token
     true
 }
 
-/// Returns whether two tokens of two texts have the same kind and spelling.
+/// Returns true only if two tokens of two texts have the same kind and spelling.
 fn is_same_word(new_text: &[u8], new: Token, old_text: &[u8], old: Token) -> bool
     ensures { result ≡ true → read_in new_text.now new ≡ read_in old_text.now old }
 {
     new.kind == old.kind && is_same_piece(new_text, new.span, old_text, old.span)
 }
 
-/// Returns whether the identifiers among the tokens of two texts are at the same indexes and have
-/// the same spellings.
+/// Returns true only if the identifiers among the tokens of two texts are at the same indexes and have the same
+/// spellings.
 fn have_same_names(new_text: &[u8], new: &[Token], old_text: &[u8], old: &[Token]) -> bool
     ensures { result ≡ true → names_in new_text.now new.now ≡ names_in old_text.now old.now }
 {
@@ -165,8 +163,7 @@ fn have_same_names(new_text: &[u8], new: &[Token], old_text: &[u8], old: &[Token
     true
 }
 
-/// Returns whether two tokens of two texts are identifiers with the same spelling, or neither is an
-/// identifier.
+/// Returns true only if two tokens of two texts are identifiers with the same spelling, or neither is an identifier.
 fn is_same_name(new_text: &[u8], new: Token, old_text: &[u8], old: Token) -> bool
     ensures { result ≡ true → name_of new.kind (spanned new_text.now new.span)
         ≡ name_of old.kind (spanned old_text.now old.span) }
@@ -178,6 +175,7 @@ fn is_same_name(new_text: &[u8], new: Token, old_text: &[u8], old: Token) -> boo
     }
 }
 
+/// Returns true for the kind of an identifier.
 fn is_name(kind: TokenKind) -> bool
     ensures yes { result ≡ true → kind ≡ Identifier }
     ensures no { result ≡ false → (text : List ℕ) → name_of kind text ≡ [] }
@@ -190,7 +188,7 @@ fn is_name(kind: TokenKind) -> bool
     }
 }
 
-/// Returns whether two spans are within their texts and contain the same bytes.
+/// Returns true only if two spans are within their texts and contain the same bytes.
 fn is_same_piece(a: &[u8], in_a: Span, b: &[u8], in_b: Span) -> bool
     ensures { result ≡ true → spanned a.now in_a ≡ spanned b.now in_b }
 {
@@ -201,8 +199,7 @@ fn is_same_piece(a: &[u8], in_a: Span, b: &[u8], in_b: Span) -> bool
         && a[in_a.start as usize..in_a.end as usize] == b[in_b.start as usize..in_b.end as usize]
 }
 
-/// Returns whether two lists of tokens have the same kinds, one by one. The values of integers may
-/// differ.
+/// Returns true only if two lists of tokens have the same kinds, one by one. The values of integers may differ.
 fn are_alike(new: &[Token], old: &[Token]) -> bool
     ensures { result ≡ true → kinds new.now ≡ kinds old.now }
 {
@@ -217,7 +214,7 @@ fn are_alike(new: &[Token], old: &[Token]) -> bool
     true
 }
 
-/// Returns whether two kinds of tokens are the same. The values of integers may differ.
+/// Returns true only if two kinds of tokens are the same. The values of integers may differ.
 fn is_same_kind(a: TokenKind, b: TokenKind) -> bool
     ensures { result ≡ true → valueless a ≡ valueless b }
 {
@@ -232,6 +229,7 @@ fn is_same_kind(a: TokenKind, b: TokenKind) -> bool
     }
 }
 
+/// Returns true for the kind of an integer.
 fn is_integer(kind: TokenKind) -> bool
     ensures { result ≡ true → valueless kind ≡ Integer 0 }
 {

@@ -1,5 +1,5 @@
--- Defines the data that is kept when the statements of one body are replaced: the data about the
--- tokens before that body, and about the tokens after it, which have moved.
+-- The data about a module's names that is kept when the statements of one body are replaced. It
+-- concerns the tokens before that body, and the tokens after it, which have moved.
 -- Rule: none; for private contracts: what is known of a module's names, carried over.
 use Rattle.std.specs.Prelude.{◌≡◌, ℕ, ◌+◌, ◌-◌, ◌^◌, min, nat_lt, List, [], ◌∷◌, ◌++◌, Option, Some, None, if◌then◌else◌, is_some, length, take, drop, replicate}
 use Rattle.ob0_scan.specs.declared.tokens.SameTokens.{SameTokens}
@@ -18,11 +18,11 @@ pub record NamesInBody : Type 0 where
   pub first : Option ℕ
   pub uses : List ℕ
 
--- the state of a walk before the first identifier
+-- returns the state before a body's first identifier, with no occurrences
 abbrev pub no_names : NamesInBody
 no_names = record { first = None; uses = [] }
 
--- returns the first identifier if there is one, otherwise this one
+-- returns the first identifier if one is known, otherwise the identifier `i`
 abbrev pub first_or : Option ℕ → ℕ → Option ℕ
 first_or first i = if is_some first then first else Some i
 
@@ -30,7 +30,8 @@ first_or first i = if is_some first then first else Some i
 abbrev pub with_use : ℕ → NamesInBody → NamesInBody
 with_use i names = record names { uses = names.uses ++ (i ∷ []) }
 
--- adds an identifier, with its role, to the names of a body
+-- adds an identifier with its role to the names of a body; it is an occurrence only if it is looked
+-- up
 abbrev pub with_name : Role → ℕ → NamesInBody → NamesInBody
 with_name role.LookedUp i names =
     record { first = first_or names.first i; uses = names.uses ++ (i ∷ []) }
@@ -39,28 +40,29 @@ with_name role.ClosingName i names = record names { first = first_or names.first
 with_name role.FieldName i names = record names { first = first_or names.first i }
 with_name role.ModuleName i names = record names { first = first_or names.first i }
 
--- returns the tokens before a body
+-- returns the tokens of a list that are before a body
 abbrev pub before_body : BodyRange → List ℕ → List ℕ
 before_body range [] = []
 before_body range (i ∷ is) =
     if nat_lt i range.first then i ∷ before_body range is else before_body range is
 
--- returns the new index of a token after a body, at most the largest index
+-- returns the new index of a token after a body, at most 2^64 - 1
 abbrev pub shifted : BodyRange → ℕ → ℕ
 shifted range i = min (i - range.old_closing + range.closing) (2 ^ 64 - 1)
 
--- returns the tokens after a body, with their new indexes
+-- returns the tokens of a list that are after a body, with their new indexes
 abbrev pub after_body : BodyRange → List ℕ → List ℕ
 after_body range [] = []
 after_body range (i ∷ is) =
     if nat_lt i range.old_closing then after_body range is
     else shifted range i ∷ after_body range is
 
--- returns the tokens of a module with the new body's own tokens in place of the old ones
+-- returns the tokens of a list with `own`, the tokens in the new body, in place of the tokens in
+-- the old body
 abbrev pub carried : BodyRange → List ℕ → List ℕ → List ℕ
 carried range tokens own = before_body range tokens ++ (own ++ after_body range tokens)
 
--- returns the first n entries of a table; missing entries are None
+-- returns the first `n` entries of a table; missing entries are None
 abbrev pub padded : ℕ → List (Option ℕ) → List (Option ℕ)
 padded n table = take n table ++ replicate (n - length table) None
 
@@ -69,12 +71,12 @@ abbrev pub carried_table : BodyRange → List (Option ℕ) → List (Option ℕ)
 carried_table range table =
     padded range.closing (take range.first table) ++ drop range.old_closing table
 
--- returns the old index of the closing name of a body's block, at most the largest index
+-- returns the token that the closing name of a body's block was before the change, at most 2^64 - 1
 abbrev pub old_place : SameTokens → ℕ → ℕ
 old_place same closing = min (closing - same.new_suffix + same.old_suffix) (2 ^ 64 - 1)
 
--- States that these are the range and the occurrences of the statements that replaced others in a
--- module. b has the bindings of the old module.
+-- Holds if `range` is the range of the statements that replaced others in a module, and `own` has
+-- their occurrences. `b` has the bindings of the old module.
 pub record IsNewBody (m : Parsed) (b : Bindings) (range : BodyRange) (own : List ℕ) : Type 0 where
   pub same : SameTokens
   pub was : WasBoundElsewhere m b same

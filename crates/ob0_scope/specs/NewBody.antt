@@ -1,4 +1,4 @@
--- Defines the bindings of a module before the statements of one body were replaced.
+-- The bindings of a module before the statements of one body were replaced.
 -- Rule: none; for contracts of `rebind_new_body`.
 use Rattle.ob0_scan.specs.declared.tokens.SameTokens.{SameTokens}
 use Rattle.ob0_tree.specs.Parsed.{Parsed}
@@ -7,7 +7,8 @@ use Rattle.ob0_scope_table.specs.BodyReplaced.{IsBodyReplaced, Way}
 use Rattle.ob0_scope_table.specs.Resolution.{IsResolution}
 use Rattle.ob0_scope_table.specs.declared.resolved.Bindings.{Bindings}
 
--- states that b has the bindings of the module before the statements of one body were replaced
+-- holds if `b` has the bindings of some module before the statements of one body were replaced,
+-- which gave the module `m`
 pub record WasBoundElsewhere (m : Parsed) (b : Bindings) (s : SameTokens) : Type 0 where
   pub old : Parsed
   pub way : Way

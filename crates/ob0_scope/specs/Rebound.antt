@@ -1,4 +1,4 @@
--- Defines the bindings of a module before the tokens of one body changed.
+-- The bindings of a module before the tokens of one body changed.
 -- Rule: none; for contracts of `rebind_body`.
 use Rattle.ob0_scan.specs.Scanned.{Scanned}
 use Rattle.ob0_tree.specs.Parsed.{IsParsed, Parsed}
@@ -8,7 +8,8 @@ use Rattle.ob0_scope_table.specs.Resolution.{IsResolution}
 use Rattle.ob0_scope_table.specs.declared.resolved.Bindings.{Bindings}
 use Rattle.std.specs.Prelude.{ℕ}
 
--- states that b has the bindings of the module over its old tokens
+-- holds if `b` has the bindings of the module before the tokens from `low` up to `high` changed,
+-- inside one body
 pub record WasBound (m : Parsed) (b : Bindings) (low high : ℕ) : Type 0 where
   pub old : Scanned
   pub change : IsBodyChange old m low high

@@ -1,4 +1,4 @@
--- Defines the bindings of occurrences after a declaration is renamed, and conflicts with other
+-- The bindings of occurrences after a declaration is renamed, and conflicts with other
 -- declarations.
 -- Rule: docs/PROTOCOL.md, Refusals of edits (Duplicate, Captures).
 use Rattle.std.specs.Prelude.{◌≡◌, ℕ, Bool, true, false, not, ◌&&◌, if◌then◌else◌, ◌==◌, List, [], ◌∷◌, Option, Some, None}
@@ -16,52 +16,55 @@ use Rattle.ob0_scope_table.specs.Resolution.{Resolution, ordinal_in}
 use Rattle.ob0_language_names.specs.Scopes.{Scope, as_label, numbered, predeclared_count, renamed}
 use Rattle.ob0_scope_numbering.specs.Written.{Writing, name_at}
 
--- returns the newest of these declarations that has the name and isn't d
+-- returns the first declaration in a list that has the name `new` and isn't `d`; None if there is
+-- none
 abbrev pub other_named : Scope Name → ℕ → Name → Option ℕ
 other_named [] d new = None
 other_named (b ∷ own) d new =
     if same_name b.0 new && not (b.1 == d) then Some b.1 else other_named own d new
 
--- returns another declaration with the name in the block that declares d; None if there is none
+-- returns another declaration with the name `new` in the first block that declares `d` and has one;
+-- None if there is none
 abbrev pub namesake_in : List (Scope Name) → ℕ → Name → Option ℕ
 namesake_in [] d new = None
 namesake_in (own ∷ others) d new =
     option_or (if declares_ordinal own d then other_named own d new else None)
     (namesake_in others d new)
 
--- returns the declaration of d's block, other than d, that has the name; if there are several, the
--- last one
+-- returns the declaration with the name `new`, other than `d`, in the block of `d`; if there are
+-- several, the last one; None if there is none
 abbrev pub namesake : Tree Name module_text → ℕ → Name → Option ℕ
 namesake m d new = namesake_in (blocks_in predeclared_count [] (module_block m)) d new
 
--- returns the place of a capture
+-- returns the conflict of the definitions that a conflict of the code stands for
 abbrev pub place_of : reported.FirstCapture → Capture
 place_of (reports.Duplicate other) = at_declaration
 place_of (reports.Occurrence k) = at_occurrence k
 
--- returns the other declaration, if a capture is a duplicate declaration in the block
+-- returns the ordinal of the other declaration, if a conflict is with another declaration of the
+-- block
 abbrev pub other_of : Option reported.FirstCapture → Option ℕ
 other_of None = None
 other_of (Some (reports.Duplicate other)) = Some other
 other_of (Some (reports.Occurrence k)) = None
 
--- true if two names are bound to the same declaration, or neither is bound
+-- returns true if both names are bound to the same declaration, or neither is bound
 abbrev pub is_bound_alike : Option ℕ → Option ℕ → Bool
 is_bound_alike None None = true
 is_bound_alike None (Some k) = false
 is_bound_alike (Some j) None = false
 is_bound_alike (Some j) (Some k) = j == k
 
--- returns a resolved text in which one declaration has a new name
+-- returns the spellings of a module's identifiers after the declaration `d` is renamed to `new`
 abbrev pub renamed_in : Resolution → ℕ → Name → Writing
 renamed_in r d new =
     record { source = r.module_read.source; ordinals = r.ordinals; declaration = Some d; new = new }
 
--- holds if no token of a text has this name as its spelling
+-- holds if no token of a text has this spelling
 abbrev pub IsNowhere : Scanned → Name → Type 0
 IsNowhere source x = (i : ℕ) → same_name (text_at source i) x ≡ false
 
--- Holds if the table of ordinals gives the numbered tree of the module in which d has the new name.
+-- Holds if the table of ordinals is the table of the module in which `d` is renamed to `new`.
 abbrev pub IsRenumbering : Resolution → ℕ → Name → List (Option ℕ) → Type 0
 IsRenumbering r d new ordinals =
     numbered (renamed (named_tree_of r.module_read) d new)

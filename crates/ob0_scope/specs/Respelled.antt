@@ -1,5 +1,5 @@
--- States that bindings don't change if the tokens of a text keep their kinds and its identifiers
--- keep their spellings.
+-- The bindings of a text whose tokens have the same kinds as before, and whose identifiers have the
+-- same spellings.
 -- Rule: docs/LANGUAGE.md, Scopes 2 to 4.
 use Rattle.std.specs.Prelude.{◌≡◌, []}
 use Rattle.ob0_scan.specs.Reused.{kinds, names_in}
@@ -11,14 +11,14 @@ use Rattle.ob0_scope_table.specs.FaultTokens.{AreWrittenAlike, moved_faults}
 use Rattle.ob0_scope_table.specs.Resolution.{IsResolution}
 use Rattle.ob0_scope_table.specs.declared.resolved.Bindings.{Bindings}
 
--- states that the tokens of two texts have the same kinds, one after the other, and that the
--- identifiers have the same spellings
+-- holds if the tokens of two texts have the same kinds, one by one, and their identifiers the same
+-- spellings
 pub record AreNamedAlike (old new : Scanned) : Type 0 where
   pub same_kinds : kinds new.tokens ≡ kinds old.tokens
   pub same_names : names_in new.text new.tokens ≡ names_in old.text old.tokens
 
--- states that the bindings of a valid module don't change if its tree is over tokens that are named
--- alike
+-- The bindings of a valid module are also the bindings of its tree over the tokens of another text.
+-- Its tokens must have the same kinds, and its identifiers the same spellings.
 abbrev pub BindingsStay : Type 0
 BindingsStay =
     (old new : Scanned) (tree : ModuleTree) (b : Bindings)
@@ -28,15 +28,16 @@ BindingsStay =
     → b.faults.items ≡ []
     → IsResolution (resolution_by (parsed_by new tree) b)
 
--- states that two bindings are equal, except that their faults are at the same tokens of two texts
+-- holds if `c` equals the bindings `b`, except that its faults are at the same tokens of the text
+-- `new`
 pub record AreMoved (old new : Scanned) (b c : Bindings) : Type 0 where
   pub ordinals : c.ordinals.items ≡ b.ordinals.items
   pub declarations : c.declarations.items ≡ b.declarations.items
   pub occurrences : c.occurrences.items ≡ b.occurrences.items
   pub faults : c.faults.items ≡ moved_faults old new b.faults.items
 
--- States that the bindings of a module don't change if its tree is over tokens with the same
--- spellings. The faults are at the same tokens.
+-- The bindings of a module are also the bindings of its tree over tokens with the same spellings.
+-- Only the faults are moved to the same tokens.
 abbrev pub BindingsKeepTokens : Type 0
 BindingsKeepTokens =
     (old new : Scanned) (tree : ModuleTree) (b c : Bindings)

@@ -1,4 +1,4 @@
--- Defines the search for another declaration with a name in a block, over indexes of tokens.
+-- The search for another declaration with a name in a block, over the indexes of tokens.
 -- Rule: none; for private contracts: the search for another declaration.
 use Rattle.std.specs.Prelude.{ℕ, Bool, not, ◌&&◌, if◌then◌else◌, List, [], ◌∷◌, ◌++◌, Option, None}
 use Rattle.std.specs.List.{list_any}
@@ -13,51 +13,54 @@ use Rattle.ob0_scope_table.specs.Resolution.{ordinal_in}
 use Rattle.ob0_language_names.specs.Scopes.{same_ordinal}
 
 -- A search: a text with the ordinals of its identifiers by token, the declaration whose block is
--- searched, and the name.
+-- searched, and the sought name.
 pub record BlockSearch : Type 0 where
   pub source : Scanned
   pub ordinals : List (Option ℕ)
   pub declaration : ℕ
   pub new : Name
 
--- returns the ordinal at a token
+-- returns the ordinal at a token in the table of a search
 abbrev pub ordinal_sought : BlockSearch → ℕ → Option ℕ
 ordinal_sought s i = ordinal_in s.ordinals i
 
--- true for a token that is bound to the declaration
+-- returns true for a token that is bound to the declaration whose block is searched
 abbrev pub is_sought : BlockSearch → ℕ → Bool
 is_sought s i = same_ordinal (ordinal_sought s i) s.declaration
 
--- true for a token that has the new name and isn't bound to the declaration
+-- returns true for a token that has the sought name and isn't bound to the declaration whose block
+-- is searched
 abbrev pub is_other : BlockSearch → ℕ → Bool
 is_other s i = same_name (text_at s.source i) s.new && not (is_sought s i)
 
--- returns the ordinal of the last other declaration with the name among these tokens, or else
--- `found`
+-- returns the ordinal of the last of these tokens that has the sought name and isn't bound to the
+-- declaration itself; `found` if there is none
 abbrev pub last_other : BlockSearch → Option ℕ → List ℕ → Option ℕ
 last_other s found [] = found
 last_other s found (i ∷ is) = last_other s (if is_other s i then ordinal_sought s i else found) is
 
--- returns the last other declaration with the name among these tokens, if the declaration is among
--- them
+-- Returns the last other declaration with the sought name among these tokens of a block. Returns
+-- None if there is none, or if the declaration itself isn't among them.
 abbrev pub other_among : BlockSearch → List ℕ → Option ℕ
 other_among s is = if list_any (is_sought s) is then last_other s None is else None
 
--- the search in a block, then in the blocks inside it
+-- Returns the declaration that the search finds: in the block itself, otherwise in the blocks
+-- inside it.
 abbrev mutual
-  -- searches `own` (the parameters) and the names of a block, otherwise the blocks inside it
+  -- returns the result for a block: among its procedure's parameters `own` and its names, otherwise
+  -- in the blocks inside it
   pub found_in_block : BlockSearch → List ℕ → Tree ℕ block → Option ℕ
   found_in_block s own (has_body (declares cs ts vs ps) statements) =
       option_or (other_among s (own ++ block_names (has_body (declares cs ts vs ps) statements)))
       (found_in_procedures s ps)
 
-  -- searches the blocks of procedures; the first result counts
+  -- returns the result for the first procedure in which one is found
   pub found_in_procedures : BlockSearch → Tree ℕ (items procedure) → Option ℕ
   found_in_procedures s end = None
   found_in_procedures s (more p rest) =
       option_or (found_in_procedure s p) (found_in_procedures s rest)
 
-  -- searches the block of a procedure, with its parameters
+  -- returns the result for the block of a procedure, whose parameters count as the block's names
   pub found_in_procedure : BlockSearch → Tree ℕ (item procedure) → Option ℕ
   found_in_procedure s (declares_procedure x fs b closing) =
       found_in_block s (formal_names (formal_sections fs)) b

@@ -59,7 +59,7 @@ pub fn captures(
     }
 }
 
-/// Returns true only if no token is spelled like the name. An empty name gives false.
+/// Returns true only if no token of the text has this spelling. For an empty name the result is false.
 fn is_nowhere(tokens: &Tokens, name: &str) -> bool
     ensures { result ≡ true → IsNowhere tokens.now name.now }
 {
@@ -74,7 +74,8 @@ fn is_nowhere(tokens: &Tokens, name: &str) -> bool
     true
 }
 
-/// Returns the first occurrence that would be bound to another declaration. None if there is none.
+/// Returns the first occurrence that would be bound to another declaration after a declaration is renamed to `new`.
+/// Returns None if there is none.
 fn first_capture(
     alloc: Global,
     names: &Resolved,
@@ -93,8 +94,8 @@ fn first_capture(
     }
 }
 
-/// Returns the number of the first occurrence to which a table gives another ordinal. None if there
-/// is none.
+/// Returns the number of the first occurrence to which this table gives another ordinal than the module's own table.
+/// Returns None if there is none.
 fn first_changed(names: &Resolved, ordinals: &[OrdinalEntry]) -> Option<usize>
     ensures { result
         ≡ position_from (λ token. not
@@ -107,6 +108,7 @@ fn first_changed(names: &Resolved, ordinals: &[OrdinalEntry]) -> Option<usize>
     ))
 }
 
+/// Returns true if both names are bound to the same declaration, or neither is bound.
 fn is_bound_alike(a: Option<usize>, b: Option<usize>) -> bool
     ensures { result ≡ is_bound_alike a b }
 {
@@ -119,8 +121,8 @@ fn is_bound_alike(a: Option<usize>, b: Option<usize>) -> bool
     }
 }
 
-/// Returns another declaration with this name in the block of a declaration, or the last one if
-/// there are several. None if there is none.
+/// Returns the ordinal of another declaration with the name `new`, in the block of a declaration. If there are several,
+/// it is the last one. Returns None if there is none.
 fn namesake(
     alloc: Global,
     names: &Resolved,
@@ -139,8 +141,8 @@ fn namesake(
     sought.block(alloc, Vec::new(alloc), names.module().block())
 }
 
-/// The search for another declaration with a name: the text, the declaration whose block is
-/// searched, and the name.
+/// The search for another declaration with a name: the text with the ordinals of its identifiers, the declaration whose
+/// block is searched, and the name.
 #[derive(Drop)]
 struct Sought<'t> {
     tokens: &'t Tokens,
@@ -163,6 +165,7 @@ impl<'t> Model for Sought<'t> {
 }
 
 impl<'t> Sought<'t> {
+    /// Returns true if the token is bound to the declaration whose block is searched.
     fn is_sought(&self, token: usize) -> bool
         ensures { result ≡ is_sought self.now token }
     {
@@ -172,15 +175,15 @@ impl<'t> Sought<'t> {
         }
     }
 
-    /// Returns true if a token has the name and isn't bound to the declaration itself.
+    /// Returns true if a token has the sought name and isn't bound to the declaration whose block is searched.
     fn is_other(&self, token: usize) -> bool
         ensures { result ≡ is_other self.now token }
     {
         text_at(self.tokens, token) == self.new && !self.is_sought(token)
     }
 
-    /// Returns the last other declaration that has the name, if the declaration is among these
-    /// tokens of a block. Otherwise None.
+    /// Returns the last declaration that has the sought name, if the declaration whose block is searched is among these
+    /// tokens of a block. Otherwise returns None.
     fn among(&self, tokens: &[usize]) -> Option<usize>
         ensures { result ≡ other_among self.now tokens.now }
     {
@@ -195,8 +198,8 @@ impl<'t> Sought<'t> {
         if is_here { found } else { None }
     }
 
-    /// Searches a block and the blocks inside it. `own` has the tokens of the parameters that are
-    /// declared in the block.
+    /// Searches a block and then the blocks inside it. `own` has the tokens of the parameters, which count as declared
+    /// in the block.
     #[cycle(blocks)]
     fn block(&self, alloc: Global, own: Vec<usize>, b: &Block) -> Result<Option<usize>, AllocError>
         ensures { IfOk result
@@ -211,6 +214,7 @@ impl<'t> Sought<'t> {
         Ok(found)
     }
 
+    /// Searches the block of a procedure, with its parameters.
     #[cycle(blocks)]
     fn procedure(&self, alloc: Global, p: &Procedure) -> Result<Option<usize>, AllocError>
         ensures { IfOk result (λ other. other ≡ found_in_procedure self.now (procedure_of p.now)) }

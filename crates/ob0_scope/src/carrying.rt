@@ -1,4 +1,4 @@
-//! Keeps the bindings of a module for a version in which the statements of one body were replaced.
+//! Reuses the bindings of a module after the statements of one body were replaced.
 
 ghost use Rattle.std.specs.Prelude.{◌≡◌, ◌++◌, ◌∷◌, [], IfOk, OnOk};
 ghost use Rattle.ob0_tree.specs.View.{block_of, body_of, procedure_of};
@@ -12,9 +12,8 @@ use ob0_tree::{Block, Procedure, Role, Statement};
 use std::alloc::{AllocError, Global};
 use std::marker::Model;
 
-/// The range of a body's statements in tokens: from their first identifier up to, but not
-/// including, the closing name of their block. `old_closing` is the token of the closing name
-/// before the statements were replaced.
+/// The range of tokens from a body's first identifier up to, but not including, the closing name of its block.
+/// `old_closing` is the token that the closing name was before the statements were replaced.
 #[derive(Clone, Copy)]
 pub(crate) struct BodyRange {
     pub(crate) first: usize,
@@ -64,6 +63,7 @@ impl Visitor for BodyNames {
 }
 
 impl BodyNames {
+    /// Appends an occurrence to the body's occurrences.
     fn add_use(&mut self, token: usize) -> Result<(), AllocError>
         ensures { OnOk result (self.new ≡ with_use token self.old) }
     {
@@ -72,8 +72,8 @@ impl BodyNames {
     }
 }
 
-/// Returns the body that contains the tokens from `low` upwards, in a block with this closing name
-/// or in one inside it.
+/// Returns the body that contains the tokens from `low` upwards: of this block, whose closing name is `own`, or of a
+/// procedure inside it.
 #[cycle(blocks)]
 pub(crate) fn body_in<'t>(inner: &'t Block, own: usize, low: usize) -> ReplacedBody<'t>
     ensures statements { body_of result.statements.now
@@ -92,6 +92,7 @@ pub(crate) fn body_in<'t>(inner: &'t Block, own: usize, low: usize) -> ReplacedB
     }
 }
 
+/// Returns the body that contains the tokens from `low` upwards: of this procedure, or of one inside it.
 #[cycle(blocks)]
 fn body_inside<'t>(p: &'t Procedure, low: usize) -> ReplacedBody<'t>
     ensures statements { body_of result.statements.now
@@ -102,7 +103,7 @@ fn body_inside<'t>(p: &'t Procedure, low: usize) -> ReplacedBody<'t>
     body_in(&p.block, p.closing, low)
 }
 
-/// Returns the index that the closing name of a body's block had before, at most the largest index.
+/// Returns the token that the closing name of a body's block was before the change, at most 2^64 - 1.
 pub(crate) fn old_place(same: SameTokens, closing: usize) -> usize
     ensures { result ≡ old_place same closing }
 {
@@ -112,7 +113,7 @@ pub(crate) fn old_place(same: SameTokens, closing: usize) -> usize
 }
 
 impl BodyRange {
-    /// Returns the new index of a token after the body, at most the largest index.
+    /// Returns the new index of a token after the body, at most 2^64 - 1.
     fn shifted(self, token: usize) -> usize
         ensures { result ≡ shifted self token }
     {
@@ -145,8 +146,8 @@ impl BodyRange {
         Ok(())
     }
 
-    /// Returns the tokens of the old module with the new body's own tokens in place of the old
-    /// ones.
+    /// Returns a list of tokens of the old module. The tokens in the old body are replaced by `own`, the tokens in the
+    /// new body.
     pub(crate) fn carry(
         self,
         alloc: Global,
@@ -162,7 +163,7 @@ impl BodyRange {
         Ok(all)
     }
 
-    /// Returns the ordinals of the old module, with no ordinals in the new body.
+    /// Returns the table of ordinals of the old module, with None at each token of the new body.
     pub(crate) fn carry_table(
         self,
         alloc: Global,

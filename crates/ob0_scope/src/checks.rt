@@ -57,8 +57,8 @@ pub(crate) fn check<'t>(alloc: Global, read: &'t Module<'t>) -> Result<Vec<Fault
     Ok(checks.into_faults())
 }
 
-/// Returns the duplicate declarations and wrong closing names of a module. `known` must contain a
-/// fault of these kinds exactly if the module has one.
+/// Returns the duplicate declarations and wrong closing names of a module. `known` must contain such a fault exactly if
+/// the module has one; if it contains none, the module isn't walked.
 pub(crate) fn check_again<'t>(
     alloc: Global,
     read: &'t Module<'t>,
@@ -86,6 +86,7 @@ fn has_of_declarations(faults: &[Fault]) -> bool
     false
 }
 
+/// Returns true if the fault is a duplicate declaration or a wrong closing name.
 fn is_of_declarations(fault: &Fault) -> bool
     ensures { result ≡ is_of_declarations fault.now }
 {
@@ -99,7 +100,7 @@ fn is_same(tokens: &Tokens, a: usize, b: usize) -> bool
     text_at(tokens, a) == text_at(tokens, b)
 }
 
-/// Returns the fault that a name is declared twice.
+/// Returns the fault `Duplicate` at a name.
 fn duplicate_at(tokens: &Tokens, name: usize) -> Fault
     ensures { result ≡ duplicate_at tokens.now name }
 {
@@ -109,7 +110,7 @@ fn duplicate_at(tokens: &Tokens, name: usize) -> Fault
     }
 }
 
-/// Returns true if one of these identifiers has this spelling.
+/// Returns true if one of these identifiers has the spelling `text`.
 fn is_written(tokens: &Tokens, names: &[usize], text: &str) -> bool
     ensures { result ≡ is_among text.now (map (text_at tokens.now) names.now) }
 {
@@ -202,7 +203,7 @@ fn add_procedures(out: &mut Vec<usize>, procedures: &[Procedure]) -> Result<(), 
     Ok(())
 }
 
-/// Appends the names that a block declares.
+/// Appends the tokens of the names that a block declares, without its procedure's parameters.
 pub(crate) fn add_block(out: &mut Vec<usize>, b: &Block) -> Result<(), AllocError>
     ensures { OnOk result (out.new.items ≡ out.old.items ++ block_names (block_of b.now)) }
 {
@@ -277,6 +278,7 @@ impl Checks {
         Ok(())
     }
 
+    /// Reports the duplicate fields of the records in a written type.
     #[cycle(types)]
     fn written_type(&mut self, tokens: &Tokens, t: &WrittenType) -> Result<(), AllocError>
         ensures { OnOk result (self.new ≡ self.old ++ fields_twice tokens.now (type_of t.now)) }
@@ -288,6 +290,7 @@ impl Checks {
         }
     }
 
+    /// Reports the duplicate fields of a record, and of the records in it.
     #[cycle(types)]
     fn record(&mut self, tokens: &Tokens, r: &RecordType) -> Result<(), AllocError>
         ensures { OnOk result (self.new ≡ self.old ++ fields_twice tokens.now (record_in r.now)) }
@@ -303,6 +306,7 @@ impl Checks {
         Ok(())
     }
 
+    /// Reports the duplicate fields of the records in the type of a group of fields.
     #[cycle(types)]
     fn group(&mut self, tokens: &Tokens, f: &Fields) -> Result<(), AllocError>
         ensures { OnOk result (self.new ≡ self.old ++ group_twice tokens.now (fields_of f.now)) }
@@ -358,6 +362,7 @@ impl Checks {
         Ok(())
     }
 
+    /// Reports the wrong closing name and the duplicate declarations of a procedure and of the blocks inside it.
     #[cycle(blocks)]
     fn procedure(&mut self, tokens: &Tokens, p: &Procedure) -> Result<(), AllocError>
         ensures { OnOk result
@@ -370,8 +375,8 @@ impl Checks {
         self.block(tokens, own, &p.block)
     }
 
-    /// Checks a block and the blocks inside it. `own` has the tokens of the parameters that are
-    /// declared in the block.
+    /// Reports the duplicate declarations of a block and of the blocks inside it. `own` has the tokens of the
+    /// parameters, which count as declared in the block.
     #[cycle(blocks)]
     fn block(&mut self, tokens: &Tokens, own: Vec<usize>, b: &Block) -> Result<(), AllocError>
         ensures { OnOk result

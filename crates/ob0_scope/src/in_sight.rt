@@ -26,7 +26,8 @@ pub fn ordinals_seen(
     ordinals_of(alloc, &ordinals, names.occurrences())
 }
 
-/// Returns the ordinal of each identifier by its token, if `name` replaces each occurrence.
+/// Returns a table with the ordinal of each identifier, by token, in the module in which `name` replaces each
+/// occurrence.
 fn ordinals_in_place(
     alloc: Global,
     names: &Resolved,

@@ -1,8 +1,8 @@
 //! Finds the name at a place of a module's text, and the tokens that refer to a declaration.
 //!
-//! The definitions pair the identifiers of the tree, each with its role and token, with the leaves
-//! of the numbered tree. They don't use a table of ordinals. The code reads the tokens of a
-//! declaration from the table, starting at the declaring token, and doesn't walk the tree.
+//! The definitions pair the identifiers of the tree, each with its role and token, with the labels of the numbered
+//! tree. They don't use a table of ordinals. The code reads the tokens of a declaration from the table, starting at the
+//! declaring token, and doesn't walk the tree.
 
 ghost use Rattle.std.specs.Prelude.{◌≡◌, ◌≤◌, IfOk, false, length, nat_lt, true};
 ghost use Rattle.std.specs.List.{position_from};
@@ -23,9 +23,9 @@ pub struct Named {
     pub ordinal: usize,
 }
 
-/// Returns the name at a place (a byte offset), which is in the name or at its end. The name may be
-/// predeclared. A closing name of a procedure counts as the procedure's name. None at a field, at
-/// the module's name and at an unbound name.
+/// Returns the name that contains a place, as a byte offset, or ends there. The name may be predeclared. A closing name
+/// of a procedure counts as the procedure's name. Returns None at a field, at the module's name, at an unbound name,
+/// and if there is no name.
 pub fn name_at(names: &Resolved, offset: usize) -> Option<Named>
     ensures { result ≡ name_on names.now.module_read offset }
 {
@@ -41,8 +41,8 @@ pub fn name_at(names: &Resolved, offset: usize) -> Option<Named>
     }
 }
 
-/// Returns the tokens that are bound to a declaration, in text order, including its closing name.
-/// The declaring token is one of them only if `include` is true.
+/// Returns the tokens that are bound to a declaration, in text order, including a procedure's closing name. The
+/// declaring token is one of them only if `include` is true.
 pub fn tokens_bound(
     alloc: Global,
     names: &Resolved,
@@ -64,14 +64,14 @@ pub fn tokens_bound(
     )
 }
 
-/// Returns the token to omit: the declaring one, unless `include` is true.
+/// Returns the declaring token as the token to omit, or None if `include` is true.
 fn omitted_token(include: bool, declaring: Option<usize>) -> Option<usize>
     ensures { result ≡ omitted_token include declaring }
 {
     if include { None } else { declaring }
 }
 
-/// Returns the first token that can refer to a declaration. No token before the declaring one does.
+/// Returns the first token that can refer to a declaration: the declaring token, or 0 for a predeclared name.
 fn first_token(declaring: Option<usize>) -> usize
     ensures { result ≡ first_token declaring }
 {
@@ -81,8 +81,7 @@ fn first_token(declaring: Option<usize>) -> usize
     }
 }
 
-/// Returns the tokens, starting at `first`, that a table binds to a declaration. The omitted token
-/// isn't among them.
+/// Returns the tokens from `first` upwards that a table binds to a declaration, without the omitted token.
 fn tokens_from(
     alloc: Global,
     ordinals: &[OrdinalEntry],
@@ -102,8 +101,8 @@ fn tokens_from(
     Ok(found)
 }
 
-/// Returns the tokens at which a new name for a declaration is written: the declaring one, its
-/// closing name, and the occurrences bound to it.
+/// Returns the tokens at which renaming a declaration changes the text: the declaring token, a procedure's closing
+/// name, and the occurrences bound to the declaration.
 pub fn renamed_tokens(
     alloc: Global,
     names: &Resolved,
@@ -123,8 +122,9 @@ pub fn renamed_tokens(
     tokens_bound(alloc, names, declaration, true)
 }
 
-/// Returns the index of the first identifier at a place, found by binary search. It is the first
-/// token that doesn't end before the place, or the token after that. None if neither is one.
+/// Returns the index of the first identifier that contains a place or ends there, found by binary search. Only the
+/// first token that doesn't end before the place, or the next one, can be it. Returns None if neither is such an
+/// identifier.
 fn first_on(tokens: &[Token], offset: usize) -> Option<usize>
     ensures { TokensAreApart 0 tokens.now
         → result ≡ position_from (is_name_on offset) 0 tokens.now }
@@ -146,7 +146,7 @@ fn first_on(tokens: &[Token], offset: usize) -> Option<usize>
     None
 }
 
-/// Returns the number of tokens that end before a place, found by binary search.
+/// Returns the number of tokens that end before a place.
 fn ended_before(tokens: &[Token], offset: usize) -> usize
     ensures bound { result ≤ length tokens.now }
     ensures point { IsNonDecreasingBy (λ (t : token.Token). t.span.end) tokens.now
@@ -156,6 +156,7 @@ fn ended_before(tokens: &[Token], offset: usize) -> usize
     tokens.partition_point(|token| (token.span.end as usize) < offset)
 }
 
+/// Returns true if the token is an identifier that contains the place, as a byte offset, or ends there.
 fn is_name_on(token: &Token, offset: usize) -> bool
     ensures { result ≡ is_name_on offset token.now }
 {
@@ -164,6 +165,7 @@ fn is_name_on(token: &Token, offset: usize) -> bool
         && offset <= token.span.end as usize
 }
 
+/// Returns true for the kind of an identifier.
 fn is_identifier(kind: TokenKind) -> bool
     ensures { result ≡ is_identifier kind }
 {

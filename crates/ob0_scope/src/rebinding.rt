@@ -80,8 +80,8 @@ pub fn rebind_new_body(
     carry_bindings(alloc, read, &old, range, &names.uses)
 }
 
-/// Returns the bindings of a module after the statements in a range of tokens were replaced. `old`
-/// has the bindings before, and `own` the occurrences in the new statements.
+/// Returns the bindings of a module after the statements in a range of tokens were replaced. `old` has the bindings
+/// before, and `own` the occurrences in the new statements. The new body's entries in the table are None.
 fn carry_bindings(
     alloc: Global,
     read: &Module<'_>,

@@ -11,9 +11,9 @@ use ob0_scope_numbering::{Writing, number};
 use ob0_scope_table::{OrdinalEntry, Resolved, ordinal_at};
 use std::alloc::{AllocError, Global};
 
-/// Returns, for each occurrence of the module in text order, the ordinal of its declaration after a
-/// declaration is renamed to `new`. Its closing name and all names bound to it are renamed with it.
-/// An entry is None if the occurrence would be unbound.
+/// Returns, for each occurrence of the module in text order, the ordinal of its declaration after a declaration is
+/// renamed to `new`. All names bound to the declaration are renamed with it. An entry is None if the occurrence would
+/// be unbound.
 pub fn resolve_renamed(
     alloc: Global,
     names: &Resolved,
@@ -28,7 +28,7 @@ pub fn resolve_renamed(
     ordinals_of(alloc, &ordinals, names.occurrences())
 }
 
-/// Returns the ordinal of each identifier, by its token, after a declaration is renamed.
+/// Returns the table of ordinals, by token, after a declaration is renamed to `new`.
 pub(crate) fn renumber(
     alloc: Global,
     names: &Resolved,
@@ -50,7 +50,7 @@ pub(crate) fn renumber(
     Ok(ordinals)
 }
 
-/// Returns the ordinals in a table at these tokens.
+/// Returns the ordinals that a table has at these tokens.
 pub(crate) fn ordinals_of(
     alloc: Global,
     ordinals: &[OrdinalEntry],

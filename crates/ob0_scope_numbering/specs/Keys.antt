@@ -1,5 +1,5 @@
--- Defines the keys of names in a map. A key is a name preceded by a number made of its last bytes,
--- which distinguish most names.
+-- The keys of names in a map. A key is a name preceded by a number made of its last bytes, which
+-- distinguish most names.
 -- Rule: none; for private contracts: keys of a map.
 use Rattle.std.specs.Prelude.{ℕ, ◌+◌, ◌-◌, ◌*◌, ◌%◌, ◌^◌, List, [], ◌∷◌, drop, length}
 use Rattle.std.specs.Borrow.{Bor}
@@ -9,7 +9,7 @@ use Rattle.std.specs.Ordering.{nat_cmp, ordering_then}
 use Rattle.ob0_language_names.specs.Names.{Name}
 
 -- Appends a byte to a number as its last digit. Digits count to the base 256, and the result is
--- below 2 ^ 64.
+-- reduced modulo 2^64.
 abbrev pub with_byte : ℕ → ℕ → ℕ
 with_byte number byte = (number * 256 % 2 ^ 64 + byte) % 2 ^ 64
 
@@ -26,10 +26,10 @@ number_of x = with_bytes (drop (length x - 8) x) 0
 abbrev pub Key : Type 0
 Key = ℕ × Bor Name
 
--- compares two keys by their numbers, and by the names if these are equal
+-- compares two keys by their numbers, and by their names if the numbers are equal
 abbrev pub compare_keys : Key → Key → Ordering
 compare_keys a b = ordering_then (nat_cmp a.0 b.0) (slice_cmp nat_cmp a.1.now b.1.now)
 
--- compares a name with a key by the numbers, and by the names if these are equal
+-- compares a name with a key by their numbers, and by the names if the numbers are equal
 abbrev pub compare_name : Name → Key → Ordering
 compare_name x key = ordering_then (nat_cmp (number_of x) key.0) (slice_cmp nat_cmp x key.1.now)

@@ -1,5 +1,5 @@
--- Defines the walk over a module's identifiers in text order, with a list of their ordinals
--- (`Visiting`).
+-- The walk over a module's identifiers in text order, which collects their ordinals in a list of
+-- marks. It visits as `Visiting` defines.
 -- Rule: none; for contracts of the walk over identifiers.
 use Rattle.std.specs.Prelude.{ℕ, List, [], ◌∷◌, ◌++◌, Option}
 use Rattle.ob0_scope_numbering.specs.Marks.{OrdinalMark}
@@ -126,7 +126,7 @@ after_heading = visit.after_heading
 abbrev pub leave_block : ℕ → ℕ → ℕ → Visit → Visit
 leave_block = visit.leave_block
 
--- returns the state before the first identifier
+-- returns the state before the first identifier of a module, with no marks
 abbrev pub started : Writing → Visit
 started writing =
     record {

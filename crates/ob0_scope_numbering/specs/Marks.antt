@@ -1,4 +1,4 @@
--- Defines marks: identifiers with the ordinals of their declarations.
+-- Marks: identifiers with the ordinals of their declarations.
 -- Rule: none; for contracts of the walk over identifiers.
 use Rattle.std.specs.Prelude.{ℕ, List, [], ◌∷◌, Option, Some, slice_set}
 
@@ -7,7 +7,7 @@ pub record OrdinalMark : Type 0 where
   pub token : ℕ
   pub ordinal : Option ℕ
 
--- returns a table after the ordinal of each mark was entered at its token
+-- returns a table with the ordinal of each mark entered at its token
 abbrev pub with_marks : List (Option ℕ) → List OrdinalMark → List (Option ℕ)
 with_marks table [] = table
 with_marks table (m ∷ ms) = with_marks (slice_set table m.token m.ordinal) ms

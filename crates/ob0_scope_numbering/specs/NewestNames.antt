@@ -1,4 +1,4 @@
--- Defines the list of the names that were bound: each once, with the index of its newest binding.
+-- The list of the names that were bound: each name once, with the index of its newest binding.
 -- Rule: none; for private contracts: the map of visible names.
 use Rattle.std.specs.Prelude.{◌≡◌, ◌<◌, ℕ, suc, List, [], ◌∷◌, Option, Some, None, if◌then◌else◌, length, option_map, slice_index_or}
 use Rattle.std.specs.BTreeMap.{BTreeMap, get_by}
@@ -16,19 +16,20 @@ abbrev pub place_of : List BoundName → Name → Option ℕ
 place_of [] x = None
 place_of (e ∷ es) x = if same_name x e.name.now then Some 0 else option_map suc (place_of es x)
 
--- holds if a name now has this newest binding, and the other names keep theirs
+-- holds if the name `x` has the newest binding `newest` after a change, and all other names keep
+-- theirs
 abbrev pub IsRenewed : List BoundName → List BoundName → Name → Option ℕ → Type 0
 IsRenewed before after x newest =
     (y : Name) → newest_in after y ≡ (if same_name x y then newest else newest_in before y)
 
--- States that the map has each name's position, and that no name is in the list twice.
+-- Holds if the map has each name's position in the list, and no name is in the list twice.
 pub record ArePlaces (places : BTreeMap Key ℕ) (entries : List BoundName) : Type 0 where
   pub placed : (x : Name) → get_by (compare_name x) places ≡ place_of entries x
   pub distinct : (i : ℕ) (d : BoundName)
       → i < length entries
       → place_of entries (slice_index_or entries i d).name.now ≡ Some i
 
--- holds if a name was added after all others, and the others keep their positions
+-- holds if the name `x` was added at the end of the list, and the other names keep their positions
 abbrev pub IsAdded : List BoundName → List BoundName → Name → Type 0
 IsAdded before after x =
     (y : Name)

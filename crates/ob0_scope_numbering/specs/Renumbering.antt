@@ -1,5 +1,5 @@
--- Defines the walk over a module's identifiers to the body that contains a range of tokens. It
--- visits the declarations on the way to the body, and the body's statements.
+-- The walk over a module's identifiers to the body that contains a token. It visits the
+-- declarations on the way to the body, and the body's statements.
 -- Rule: none; for contracts of the walk over identifiers.
 use Rattle.std.specs.Prelude.{ℕ, ◌+◌, nat_lt, List, [], ◌∷◌, ◌++◌, Option, length, drop, if◌then◌else◌}
 use Rattle.ob0_tree.specs.Tree.{Tree, block, body, declares, declares_procedure, end, has_body, is_module, item, items, maybe, module_text, more, procedure}
@@ -16,7 +16,8 @@ abbrev pub first_before : ℕ → List ℕ → List ℕ
 first_before token [] = []
 first_before token (x ∷ xs) = if nat_lt x token then x ∷ first_before token xs else []
 
--- counts all declarations before a token, without visiting them
+-- counts the module's declarations before a token as declared, without visiting them; `all` has all
+-- declaring tokens
 abbrev pub caught_up : {M : Type 0} → List ℕ → ℕ → Visit M → Visit M
 caught_up all token v =
     record v {
@@ -27,22 +28,23 @@ caught_up all token v =
 abbrev pub counted : {M : Type 0} → ℕ → Visit M → Visit M
 counted token v = record v { declarations = v.declarations ++ (token ∷ []) }
 
--- makes a procedure's name visible, and skips its content
+-- makes the name `x` of a procedure visible with the next ordinal, and skips the procedure itself
 abbrev pub passed_over : {M : Type 0} → ℕ → Visit M → Visit M
 passed_over x v = visible x (predeclared_count + length v.declarations) v
 
 -- `put` adds an identifier's ordinal to the others, and `all` has the module's declaring tokens.
--- The range begins at the token `low`.
+-- The body that is visited again contains the token `low`.
 module _ {M : Type 0} (put : ℕ → Option ℕ → M → M) (all : List ℕ) (low : ℕ) where
   abbrev mutual
-    -- visits a block: its sections, then its statements or one of its procedures
+    -- visits a block: its sections, then its statements or the procedure that contains the token
+    -- `low`
     pub renumber_block : Tree ℕ block → Visit M → Visit M
     renumber_block (has_body (declares cs ts vs ps) statements) v =
         renumber_procedures ps statements
         (visit_variable_section put vs (visit_type_section put ts (visit_constant_section put cs v)))
 
-    -- visits the first procedure that doesn't close before the range; if there is none, the
-    -- statements
+    -- visits the first procedure whose closing name isn't before `low`, after passing over the
+    -- procedures before it; if there is none, visits the statements
     pub renumber_procedures : Tree ℕ (items procedure) → Tree ℕ (maybe body) → Visit M → Visit M
     renumber_procedures end statements v = used put statements v
     renumber_procedures (more p ps) statements v =
@@ -51,13 +53,13 @@ module _ {M : Type 0} (put : ℕ → Option ℕ → M → M) (all : List ℕ) (l
         (passed_over (procedure_name p) (caught_up all (procedure_name p) v))
         else renumber_procedure p (caught_up all (procedure_name p) v)
 
-    -- visits a procedure: its name, its parameters and its block
+    -- visits a procedure's name, its parameters and its block, but not its closing name
     pub renumber_procedure : Tree ℕ (item procedure) → Visit M → Visit M
     renumber_procedure (declares_procedure x fs b closing) v =
         renumber_block b (after_heading (length v.declarations) (length v.scope)
         (visit_formals put fs (numbered_at put x v)))
 
--- returns the state before the first identifier, with a table of ordinals
+-- returns the state before the first identifier of a module, with this table of ordinals
 abbrev pub started_over : Writing → List (Option ℕ) → tabling.Visit
 started_over writing table =
     record {
@@ -68,6 +70,7 @@ started_over writing table =
       marks = table;
     }
 
--- returns the state after the body that contains the range of tokens
+-- returns the state after the visit of the body that contains the token `low`; `all` has the
+-- module's declaring tokens
 abbrev pub module_renumbered : List ℕ → ℕ → Tree ℕ module_text → tabling.Visit → tabling.Visit
 module_renumbered all low (is_module x b closing) v = renumber_block tabling.put all low b v

@@ -1,5 +1,5 @@
--- Defines the walk over a module's identifiers in text order, with a table of their ordinals by
--- token (`Visiting`).
+-- The walk over a module's identifiers in text order, which enters their ordinals into a table by
+-- token. It visits as `Visiting` defines.
 -- Rule: none; for contracts of the walk over identifiers.
 use Rattle.std.specs.Prelude.{ℕ, List, [], Option, None, length, replicate, slice_set}
 use Rattle.ob0_tree.specs.declared.tree.Role.{Role}
@@ -16,7 +16,8 @@ use Rattle.ob0_scope_numbering.specs.Written.{Writing}
 abbrev pub Visit : Type 0
 Visit = visit.Visit (List (Option ℕ))
 
--- writes an ordinal into a table at its token, as an entry can hold it
+-- writes an ordinal into a table at a token; an ordinal above the greatest of an entry counts as
+-- the greatest
 abbrev pub put : ℕ → Option ℕ → List (Option ℕ) → List (Option ℕ)
 put i ordinal table = slice_set table i (kept ordinal)
 
@@ -132,7 +133,7 @@ after_heading = visit.after_heading
 abbrev pub leave_block : ℕ → ℕ → ℕ → Visit → Visit
 leave_block = visit.leave_block
 
--- returns the state before the first identifier
+-- returns the state before the first identifier of a module, with None for each token
 abbrev pub started : Writing → Visit
 started writing =
     record {
@@ -143,7 +144,8 @@ started writing =
       marks = replicate (length writing.source.tokens) None;
     }
 
--- returns the same state with a table that has the marks, instead of their list
+-- returns a state of the walk with marks as a state of the walk with a table: the marks are entered
+-- into this table
 abbrev pub tabled : List (Option ℕ) → marking.Visit → Visit
 tabled table v =
     record {
@@ -154,7 +156,7 @@ tabled table v =
       marks = with_marks table v.marks;
     }
 
--- returns the state after a module, with the table of its marks
+-- returns the state after a module, with the table of its identifiers' ordinals
 abbrev pub module_numbered : Tree ℕ module_text → Writing → Visit
 module_numbered m writing =
     tabled (replicate (length writing.source.tokens) None)

@@ -1,5 +1,5 @@
--- Defines the walk over a module's identifiers in text order: the state after each part, however
--- the ordinals are kept.
+-- The walk over a module's identifiers in text order: the state after each part. How the ordinals
+-- are collected is left open.
 -- Rule: none; for contracts of the walk over identifiers.
 use Rattle.std.specs.Prelude.{ℕ, ◌+◌, ◌-◌, List, [], ◌∷◌, ◌++◌, Option, Some, None, map, length, drop}
 use Rattle.ob0_tree.specs.declared.tree.Role.{Role}
@@ -24,7 +24,7 @@ pub record Visit (M : Type 0) : Type 0 where
 abbrev pub visible : {M : Type 0} → ℕ → ℕ → Visit M → Visit M
 visible i ordinal v = record v { scope = (name_at v.writing i, ordinal) ∷ v.scope }
 
--- makes the names of the declarations visible, starting at the one with this index
+-- makes the names of the declarations visible, starting at the declaration with the index `first`
 abbrev pub visible_from : {M : Type 0} → ℕ → Visit M → Visit M
 visible_from first v =
     record v {
@@ -32,21 +32,22 @@ visible_from first v =
           = declare_names (predeclared_count + first) (map (name_at v.writing) (drop first v.declarations)) v.scope;
     }
 
--- keeps only the oldest `len` bindings
+-- keeps only the oldest `len` bindings of the scope
 abbrev pub left_to : {M : Type 0} → ℕ → Visit M → Visit M
 left_to len v = record v { scope = drop (length v.scope - len) v.scope }
 
--- Returns the state after the heading of a procedure. The parameters are visible in the heading
--- without the procedure, and after it with the procedure below them.
+-- Returns the state after the heading of a procedure. `own` is the number of declarations before
+-- the procedure, and `outside` the number of bindings. The parameters' bindings are replaced by
+-- bindings of the procedure and then of its parameters.
 abbrev pub after_heading : {M : Type 0} → ℕ → ℕ → Visit M → Visit M
 after_heading own outside v = visible_from own (left_to outside v)
 
--- Returns the state after the block of a procedure. The bindings of the block are dropped, and the
--- procedure is visible.
+-- Returns the state after the block of a procedure with the name `x`. The scope is cut back to its
+-- `outside` oldest bindings, and then the procedure is visible.
 abbrev pub leave_block : {M : Type 0} → ℕ → ℕ → ℕ → Visit M → Visit M
 leave_block x ordinal outside v = visible x ordinal (left_to outside v)
 
--- `put` adds an identifier's ordinal to the others
+-- Definitions in which `put` adds an identifier's ordinal to the others.
 module _ {M : Type 0} (put : ℕ → Option ℕ → M → M) where
   -- gives an identifier this ordinal
   abbrev pub marked : ℕ → Option ℕ → Visit M → Visit M
@@ -64,7 +65,8 @@ module _ {M : Type 0} (put : ℕ → Option ℕ → M → M) where
   numbered_all [] v = v
   numbered_all (i ∷ is) v = numbered_all is (numbered_at i v)
 
-  -- visits an identifier in a part that declares nothing
+  -- visits an identifier in a part that declares nothing; a looked-up name gets the ordinal of its
+  -- declaration, any other name none
   abbrev pub found : Role → ℕ → Visit M → Visit M
   found role.LookedUp i v =
       record v {
@@ -83,7 +85,7 @@ module _ {M : Type 0} (put : ℕ → Option ℕ → M → M) where
   abbrev pub used : {s : Sort} → Tree ℕ s → Visit M → Visit M
   used t v = visited found t v
 
-  -- visits declarations, whose names are visible after them
+  -- visits the declaration of a constant, whose name is visible after it
   abbrev pub visit_constant : Tree ℕ (item constant) → Visit M → Visit M
   visit_constant (declares_constant x e) v =
       visible_from (length v.declarations) (used e (numbered_at x v))

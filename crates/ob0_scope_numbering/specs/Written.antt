@@ -1,4 +1,4 @@
--- Defines the spellings of identifiers: as in the text, or a new name for the identifiers of one
+-- The spellings of identifiers: as in the text, or a new name for the identifiers of one
 -- declaration.
 -- Rule: none; for contracts: identifiers as they are written.
 use Rattle.std.specs.Prelude.{ℕ, Bool, false, if◌then◌else◌, List, [], Option, Some, None}
@@ -10,19 +10,21 @@ use Rattle.ob0_scope_table.specs.Resolution.{ordinal_in}
 use Rattle.ob0_language_names.specs.Scopes.{same_ordinal}
 
 -- A text with the ordinals of its identifiers by token. `declaration` is the ordinal of the renamed
--- declaration, if one is renamed, and `new` its new name.
+-- declaration, or None if no declaration is renamed. `new` is its new name.
 pub record Writing : Type 0 where
   pub source : Scanned
   pub ordinals : List (Option ℕ)
   pub declaration : Option ℕ
   pub new : Name
 
--- true if an identifier with this ordinal has the new name
+-- returns true if the second ordinal is the ordinal of the renamed declaration, which is the first
+-- argument
 abbrev pub is_renamed : Option ℕ → Option ℕ → Bool
 is_renamed None ordinal = false
 is_renamed (Some d) ordinal = same_ordinal ordinal d
 
--- returns the spelling of a token
+-- returns the spelling of the identifier at a token, which is the new name if its declaration is
+-- renamed
 abbrev pub name_at : Writing → ℕ → Name
 name_at w i =
     if is_renamed w.declaration (ordinal_in w.ordinals i) then w.new else text_at w.source i

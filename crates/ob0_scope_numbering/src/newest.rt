@@ -1,17 +1,15 @@
 //! Finds the newest binding of each name.
 //!
-//! Each name that was ever bound is in a list with its newest binding, and a map has its position
-//! in that list. A name keeps its position, so hiding and removing a binding change only the list
-//! and allocate nothing. A binding has its name's position, so no text is read when the binding is
-//! removed.
+//! Each name that was ever bound is in a list with its newest binding, and a map has its position in that list. A name
+//! keeps its position, so hiding and removing a binding change only the list and allocate nothing. A binding has its
+//! name's position, so no text is read when the binding is removed.
 //!
-//! A key of the map is a name preceded by a number made of its last eight bytes. Nearly all
-//! comparisons are between two numbers. If these are equal, the names decide, so no text can make a
-//! look-up slow.
+//! A key of the map is a name preceded by a number made of its last eight bytes. Nearly all comparisons are between two
+//! numbers. If these are equal, the names decide, so no text can make a look-up slow.
 //!
-//! Before the map, a small table is searched by a few bytes of the name. It has the position that
-//! such a name had last. That position is only a hint, which is compared with the name, so the
-//! proof needs no fact about the table.
+//! Before the map, a small table of recent names is searched by a few bytes of the name. Its entry is the position that
+//! a name with such bytes had last. That position is only a hint, which is compared with the name, so the proof needs
+//! no fact about the table.
 
 ghost use Rattle.std.specs.Prelude.{◌≡◌, [], IfOk, IfSome, OnErr, OnOk, None, Some};
 ghost use Rattle.ob0_scope_numbering.specs.Keys.{number_of, with_byte, with_bytes};
@@ -22,7 +20,7 @@ use std::alloc::{AllocError, Global};
 use std::collections::BTreeMap;
 use std::marker::Model;
 
-/// The number of slots of the table of recent names, a power of two.
+/// The number of slots of the table of recent names. It is a power of two.
 const RECENT: usize = 1024;
 
 /// A name as a key of the map. The number before the name is made of its last bytes, which
@@ -85,7 +83,7 @@ fn slot_of(name: &str) -> usize {
     (sketch(name).wrapping_mul(0x9E37_79B9_7F4A_7C15) >> 54) as usize
 }
 
-/// Returns an empty table of recent names. An entry of that table counts only if the name is at its
+/// Returns a table of recent names with position 0 in each slot. An entry counts only if the sought name is at its
 /// position.
 fn no_recent(alloc: Global) -> Result<Vec<usize>, AllocError> {
     vec![in alloc; 0; RECENT]
@@ -132,6 +130,7 @@ impl<'t> Newest<'t> {
         Ok(newest)
     }
 
+    /// Returns an empty list of names.
     fn with_no_names(alloc: Global) -> Result<Newest<'t>, AllocError>
         ensures { IfOk result (λ t. t ≡ []) }
     {
@@ -153,7 +152,7 @@ impl<'t> Newest<'t> {
         self.entries[0].newest
     }
 
-    /// Returns the position of a name if this slot of the recent names has it. Otherwise None.
+    /// Returns the position of a name if the recent names have it in this slot. Otherwise returns None.
     #[inline(always)]
     fn find_entry(&self, slot: usize, name: &'t str) -> Option<usize>
         ensures { IfSome result (λ place. place_of self.now name.now ≡ Some place) }
@@ -178,7 +177,7 @@ impl<'t> Newest<'t> {
         }
     }
 
-    /// Returns the position of a name. None if the name isn't in the list.
+    /// Returns the position of a name, or None if the name isn't in the list.
     #[inline(always)]
     fn find(&mut self, name: &'t str) -> Option<usize>
         ensures found { result ≡ place_of self.old name.now }

@@ -102,7 +102,7 @@ fn ordinal_at_index(index: usize) -> usize
     PREDECLARED + index
 }
 
-/// Returns the scope with the predeclared names, and with the new name of a renamed declaration.
+/// Returns a scope with the predeclared names, which also knows the new name of a renamed declaration.
 fn predeclared_names<'t>(alloc: Global, new: &'t str) -> Result<Visible<'t>, AllocError>
     ensures { IfOk result
         (λ v. v ≡ record { new_name = new.entry.now; scope = predeclared_scope as_names }) }
@@ -127,7 +127,7 @@ fn declare_predeclared(visible: &mut Visible<'_>) -> Result<(), AllocError>
     Ok(())
 }
 
-/// Visits a module whose identifiers have these spellings, and returns the state after it.
+/// Visits a module whose identifiers have the spellings `writing`, and returns the state after it.
 fn visit_module<'t>(
     alloc: Global,
     read: &'t Module<'t>,
@@ -151,9 +151,8 @@ fn visit_module<'t>(
     Ok(numbering)
 }
 
-/// Numbers the body that contains a range of tokens again, and returns the table. The table must
-/// have the ordinals of everything else. `all` has the module's declaring tokens, and the range
-/// begins at the token `low`.
+/// Numbers the body that contains the token `low` again, and returns the table. The given table must have the ordinals
+/// of everything else. `all` has the module's declaring tokens.
 pub fn number_body(
     alloc: Global,
     read: &Module<'_>,
@@ -179,8 +178,8 @@ pub fn number_body(
     Ok(ordinals)
 }
 
-/// Numbers a module whose identifiers have these spellings, and returns the state after it. The
-/// table can hold every ordinal, because a text has no more declarations than bytes.
+/// Numbers a module whose identifiers have the spellings `writing`, and returns the state after it. The table can hold
+/// every ordinal, because a text has no more declarations than bytes.
 pub fn number<'t>(
     alloc: Global,
     read: &'t Module<'t>,
@@ -219,13 +218,14 @@ impl<'t> Numbering<'t> {
         self.declarations.len()
     }
 
-    /// Returns the number of visible names.
+    /// Returns the number of visible bindings, including hidden ones.
     fn bindings(&self) -> usize
         ensures { result ≡ length self.now.scope }
     {
         self.visible.len()
     }
 
+    /// Enters an ordinal into the table at a token.
     fn mark(&mut self, token: usize, ordinal: Option<usize>)
         ensures { self.new ≡ marked token ordinal self.old }
     {
@@ -234,7 +234,7 @@ impl<'t> Numbering<'t> {
         }
     }
 
-    /// Gives a declaring name the next ordinal, and returns the ordinal.
+    /// Gives a declaring name the next ordinal, and returns that ordinal. The name isn't visible yet.
     fn number(&mut self, token: usize) -> Result<usize, AllocError>
         ensures next { IfOk result (λ ordinal. ordinal ≡ predeclared_count + length self.old.declarations) }
         ensures numbered { OnOk result (self.new ≡ numbered_at token self.old) }
@@ -245,7 +245,7 @@ impl<'t> Numbering<'t> {
         Ok(ordinal)
     }
 
-    /// Makes the name of a declaration visible.
+    /// Makes the name at a token visible as the declaration with this ordinal.
     fn show(&mut self, token: usize, ordinal: usize) -> Result<(), AllocError>
         ensures { OnOk result (self.new ≡ visible token ordinal self.old) }
     {
@@ -256,7 +256,7 @@ impl<'t> Numbering<'t> {
         }
     }
 
-    /// Makes the names of the declarations visible, starting at the one with this index.
+    /// Makes the names of the declarations visible, starting at the declaration with the index `first`.
     fn show_from(&mut self, first: usize) -> Result<(), AllocError>
         ensures { OnOk result (self.new ≡ visible_from first self.old) }
     {
@@ -274,7 +274,7 @@ impl<'t> Numbering<'t> {
         self.visible.leave_to(len);
     }
 
-    /// Returns true if an identifier has the new name.
+    /// Returns true if an identifier has the new name, because its declaration is the renamed one.
     fn is_renamed(&self, token: usize) -> bool
         ensures { result
             ≡ is_renamed self.now.writing.declaration (ordinal_in self.now.writing.ordinals token) }
@@ -316,6 +316,7 @@ impl<'t> Numbering<'t> {
         Ok(())
     }
 
+    /// Gives each declaring name of a list the next ordinal. The names aren't visible yet.
     fn names(&mut self, ns: &Names) -> Result<(), AllocError>
         ensures { OnOk result (self.new ≡ numbered_all (names_listed (names_of ns.now)) self.old) }
     {
@@ -397,6 +398,7 @@ impl<'t> Numbering<'t> {
         Ok(())
     }
 
+    /// Visits the parameters of a heading. They are visible to the later sections.
     fn heading(&mut self, formals: &Option<Vec<Section>>) -> Result<(), AllocError>
         ensures { OnOk result (self.new ≡ visit_formals (formals_of formals.now) self.old) }
     {
@@ -440,7 +442,8 @@ impl<'t> Numbering<'t> {
         body(self, &b.body)
     }
 
-    /// Counts the module's declarations before a token, without visiting them.
+    /// Counts the module's declarations before a token as declared, without visiting them. `all` has all declaring
+    /// tokens.
     fn catch_up(&mut self, all: &[usize], token: usize) -> Result<(), AllocError>
         ensures { OnOk result (self.new ≡ caught_up all.now token self.old) }
     {
@@ -462,7 +465,7 @@ impl<'t> Numbering<'t> {
         Ok(())
     }
 
-    /// Makes the name of the next declaration visible, and skips its content.
+    /// Makes the name of the next declaration visible, and skips the declaration itself.
     fn pass_over(&mut self, token: usize) -> Result<(), AllocError>
         ensures { OnOk result (self.new ≡ passed_over token self.old) }
     {
@@ -470,6 +473,8 @@ impl<'t> Numbering<'t> {
         self.show(token, ordinal_at_index(next))
     }
 
+    /// Visits a procedure's name, its parameters and its block again, on the way to the body that contains the token
+    /// `low`. `all` has the module's declaring tokens.
     #[cycle(blocks_again)]
     fn procedure_again(
         &mut self,
@@ -489,6 +494,8 @@ impl<'t> Numbering<'t> {
         self.block_again(&p.block, all, low)
     }
 
+    /// Visits a block again: its sections, and then its statements or the procedure that contains the token `low`.
+    /// `all` has the module's declaring tokens.
     #[cycle(blocks_again)]
     fn block_again(&mut self, inner: &Block, all: &[usize], low: usize) -> Result<(), AllocError>
         ensures { OnOk result

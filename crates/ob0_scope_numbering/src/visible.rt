@@ -9,7 +9,8 @@ use crate::newest::Newest;
 use std::alloc::{AllocError, Global};
 use std::marker::Model;
 
-/// A visible declaration, with the position of its name and the index of the binding that it hides.
+/// A binding of a name to an ordinal. `place` is the name's position in the list of names, and `hidden` the index of
+/// the binding that it hides.
 #[derive(Drop)]
 pub(crate) struct Binding<'t> {
     name: &'t str,
@@ -57,7 +58,7 @@ impl<'t> Visible<'t> {
         self.bindings.len()
     }
 
-    /// Returns the ordinal of the declaration to which a name is bound. None if it is unbound.
+    /// Returns the ordinal of the declaration to which a name is bound, or None if it is unbound.
     pub(crate) fn look_up(&mut self, name: &'t str) -> Option<usize>
         ensures found { result ≡ ordinal_of as_names self.old.scope name.now }
         ensures same { self.new ≡ self.old }
@@ -69,8 +70,7 @@ impl<'t> Visible<'t> {
         Some(self.bindings[index].ordinal)
     }
 
-    /// Returns the ordinal of the declaration to which the new name is bound. None if it is
-    /// unbound.
+    /// Returns the ordinal of the declaration to which the new name is bound, or None if it is unbound.
     pub(crate) fn look_up_new(&self) -> Option<usize>
         ensures { result ≡ ordinal_of as_names self.now.scope self.now.new_name }
     {

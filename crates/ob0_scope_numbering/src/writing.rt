@@ -10,7 +10,7 @@ use ob0_scan::Tokens;
 use ob0_scope_table::OrdinalEntry;
 use std::marker::Model;
 
-/// A text, and a new name for each identifier of one declaration, if one is renamed.
+/// A text, and a new name for the identifiers of one declaration. If `declaration` is None, no declaration is renamed.
 #[derive(Drop)]
 pub struct Writing<'t> {
     pub tokens: &'t Tokens,
@@ -32,7 +32,8 @@ impl<'t> Model for Writing<'t> {
     } };
 }
 
-/// Returns true if an identifier with this ordinal has the new name.
+/// Returns true if `ordinal` is the ordinal of the renamed declaration. The result is false if no declaration is
+/// renamed or the identifier is unbound.
 pub(crate) fn is_renamed(declaration: Option<usize>, ordinal: Option<usize>) -> bool
     ensures { result ≡ is_renamed declaration ordinal }
 {

@@ -1,4 +1,4 @@
--- Joins a module to the bindings of its names.
+-- A module joined to the bindings of its names.
 -- Rule: docs/LANGUAGE.md, Scopes 2 to 4.
 use Rattle.ob0_tree.specs.Parsed.{Parsed}
 use Rattle.ob0_scope_table.specs.Resolution.{Resolution}

@@ -1,9 +1,9 @@
--- Defines a property of all tokens in a part of a tree.
+-- A property of all tokens in a part of a tree.
 -- Rule: none; for contracts: what stays where the names and numbers of some parts are written otherwise.
 use Rattle.std.specs.Prelude.{ℕ}
 use Rattle.ob0_tree.specs.Tree.{Sort, Tree, adds, array_type, assigns, begins, branches, calls, compares, declares, declares_constant, declares_constants, declares_procedure, declares_type, declares_types, declares_variable, declares_variables, designator, else_branch, elsif_branch, empty, end, field, has_body, index, integer, is_module, listed, more, multiplies, named_type, negation, no_arguments, no_fields, no_formals, none, one, parenthesised, product, record_type, relates, repeat_loop, runs, some_arguments, some_fields, some_formals, sum, then_argument, then_fields, then_name, then_section, then_statement, value_section, variable_section, while_loop}
 
--- holds if the token of each name and of each number in a part has property P
+-- holds if the token of each name and of each number in a part of a tree has the property `P`
 abbrev pub EachToken : {s : Sort} → (ℕ → Type 0) → Tree ℕ s → Type 0
 EachToken P none = Unit {0}
 EachToken P (one t) = EachToken P t

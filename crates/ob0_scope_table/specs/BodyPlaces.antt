@@ -1,4 +1,4 @@
--- Defines the place of a body: its first identifier, and the closing name of its block.
+-- The place of a body: its first identifier, and the closing name of its block.
 -- Rule: none; for contracts: the body in which a range of tokens lies.
 use Rattle.std.specs.Prelude.{ℕ, Bool, Option, None, if◌then◌else◌, option_map}
 use Rattle.ob0_tree.specs.FirstIdentifier.{first_identifier}
@@ -13,8 +13,8 @@ use Rattle.ob0_scope_table.specs.declared.one_body.BodyPlace.{BodyPlace}
 abbrev pub tree_in : ModuleTree → Tree ℕ module_text
 tree_in t = is_module t.name (block_of t.block) t.closing
 
--- Returns the place of these statements, in a block with this closing name. None if they aren't the
--- sought ones or have no identifier.
+-- Returns the place of these statements, in a block with this closing name. Returns None if the
+-- Bool is false or the statements have no identifier.
 abbrev pub place_if : Bool → Tree ℕ (maybe body) → ℕ → Option BodyPlace
 place_if sought statements closing =
     if sought
@@ -22,22 +22,23 @@ place_if sought statements closing =
     (first_identifier statements)
     else None
 
--- Returns the place of the body in a block that contains a range of tokens; the block has this
--- closing name. None if no body contains the range.
+-- Returns the place of the body, in this block or a procedure inside it, that contains the tokens
+-- from `low` to before `high`. `closing` is the block's closing name. Returns None if no body
+-- contains them.
 abbrev pub place_in_block : ℕ → ℕ → ℕ → Tree ℕ block → Option BodyPlace
 place_in_block low high closing b =
     place_if (is_in_block low high b) (body_in (way_in_block low b) b)
     (closing_in (way_in_block low b) closing b)
 
--- Returns the place of the body in a procedure that contains a range of tokens. None if no body
--- contains it.
+-- Returns the place of the body, in this procedure or one inside it, that contains the tokens from
+-- `low` to before `high`. Returns None if no body contains them.
 abbrev pub place_in_procedure : ℕ → ℕ → Tree ℕ (item procedure) → Option BodyPlace
 place_in_procedure low high p =
     place_if (is_in_procedure low high p) (body_inside (way_in_procedure low p) p)
     (closing_inside (way_in_procedure low p) p)
 
--- Returns the place of the body in a module that contains a range of tokens. None if no body
--- contains it.
+-- Returns the place of the body, in this module, that contains the tokens from `low` to before
+-- `high`. Returns None if no body contains them.
 abbrev pub body_place : ℕ → ℕ → Tree ℕ module_text → Option BodyPlace
 body_place low high t =
     place_if (is_in_body low high t) (body_at (way_to low t) t) (closing_at (way_to low t) t)

@@ -1,5 +1,5 @@
--- Defines the faults of duplicate declarations and wrong closing names, in the order in which they
--- are reported. The names of these trees are tokens.
+-- The faults of duplicate declarations and wrong closing names, in the order in which they are
+-- reported. The names of these trees are tokens.
 -- Rule: docs/LANGUAGE.md, Faults of scopes and types, `Duplicate`, `EndName`.
 use Rattle.std.specs.Prelude.{ℕ, Bool, not, List, [], ◌∷◌, ◌++◌, if◌then◌else◌}
 use Rattle.ob0_scan.specs.declared.fault.Code.TheVariants as code
@@ -25,7 +25,7 @@ duplicate_at source token = record { code = code.Duplicate; span = span_at sourc
 abbrev pub end_name_at : Scanned → ℕ → Fault
 end_name_at source token = record { code = code.EndName; span = span_at source token }
 
--- reports each name that is earlier in the list or in `before`
+-- reports each name of the list that also is earlier in the list, or in `before`
 abbrev pub again : Scanned → List Name → List ℕ → List Fault
 again source before [] = []
 again source before (x ∷ xs) =
@@ -37,7 +37,7 @@ abbrev pub closing_other : Scanned → ℕ → ℕ → List Fault
 closing_other source x closing =
     unless (same_name (text_at source x) (text_at source closing)) (end_name_at source closing)
 
--- the duplicate fields of a record, then the duplicate fields of the records in it
+-- Reports the duplicate fields of a record, then the duplicate fields of the records in it.
 abbrev mutual
   -- reports duplicate fields in a written type, in the outer record first
   pub fields_twice : Scanned → Tree ℕ written_type → List Fault
@@ -74,8 +74,7 @@ formals_twice source end = []
 formals_twice source (more (then_section s) fs) =
     fields_twice source (section_type s) ++ formals_twice source fs
 
--- the faults of a block: duplicates among its names, then the faults of its types, variables and
--- procedures
+-- Reports the duplicate names of a block, then the faults of its types, variables and procedures.
 abbrev mutual
   -- reports the faults of a block; `own` has the names of its procedure's parameters, which belong
   -- to the block

@@ -1,4 +1,4 @@
--- Defines the entries of a table of ordinals.
+-- The entries of a table of ordinals.
 -- Rule: none; for contracts: ordinals in 32 bits.
 use Rattle.std.specs.Prelude.{ℕ, zero, suc, min, Option, Some, None, option_map}
 
@@ -6,7 +6,8 @@ use Rattle.std.specs.Prelude.{ℕ, zero, suc, min, Option, Some, None, option_ma
 abbrev pub greatest : ℕ
 greatest = 4294967294
 
--- returns an ordinal as an entry holds it: one above the greatest counts as the greatest
+-- returns an optional ordinal as an entry holds it: an ordinal above the greatest counts as the
+-- greatest
 abbrev pub kept : Option ℕ → Option ℕ
 kept ordinal = option_map (λ n. min n greatest) ordinal
 

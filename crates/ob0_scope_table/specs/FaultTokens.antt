@@ -1,4 +1,4 @@
--- Defines faults with the tokens at which they are. In two texts whose tokens have the same
+-- Faults with the tokens at which they begin and end. In two texts whose tokens have the same
 -- spellings, the faults are at the same tokens.
 -- Rule: none; for contracts: what stays where the tokens of a text are written as they were.
 use Rattle.std.specs.Prelude.{◌≡◌, ◌==◌, ℕ, nat_lt, List, length, map, if◌then◌else◌}
@@ -14,8 +14,8 @@ use Rattle.ob0_scope_table.specs.declared.fault_tokens.FaultAt.{FaultAt}
 abbrev pub first_start : Scanned → ℕ
 first_start source = (span_at source 0).start
 
--- States that the tokens of two texts have the same kinds and spellings, one after the other. Both
--- texts begin with a token, or neither does.
+-- Holds if the tokens of two texts have the same kinds and spellings, one by one. Both texts must
+-- begin with a token, or neither. A text without tokens counts as one that begins with a token.
 pub record AreWrittenAlike (old new : Scanned) : Type 0 where
   pub old_scan : IsScan old
   pub new_scan : IsScan new
@@ -31,21 +31,21 @@ fault_at source f =
           record { start = (span_at source f.first).start; end = (span_at source f.last).end };
     }
 
--- Returns the index of the first token that doesn't begin before a place. For place 0 it is the
--- number of tokens, as if no token began there.
+-- Returns the index of the first token that doesn't begin before a place. Returns the number of
+-- tokens for place 0, because place 0 counts as a place at which no token begins.
 abbrev pub begun_at : List Token → ℕ → ℕ
 begun_at tokens place =
     if place == 0 then length tokens
     else prefix_len (λ (t : Token). nat_lt t.span.start place) tokens
 
--- Returns the index of the first token that doesn't end before a place. For place 0, at which no
--- token ends, it is the number of tokens.
+-- Returns the index of the first token that doesn't end before a place. Returns the number of
+-- tokens for place 0, because no token ends at place 0.
 abbrev pub ended_at : List Token → ℕ → ℕ
 ended_at tokens place =
     if place == 0 then length tokens
     else prefix_len (λ (t : Token). nat_lt t.span.end place) tokens
 
--- returns the tokens at which a fault begins and ends
+-- returns a fault with the tokens at which it begins and ends instead of its span
 abbrev pub tokens_of : List Token → Fault → FaultAt
 tokens_of tokens f =
     record {
@@ -54,11 +54,12 @@ tokens_of tokens f =
       last = ended_at tokens f.span.end;
     }
 
--- returns the faults of one text moved to the same tokens of another
+-- returns the faults of the text `old`, moved to the same tokens of the text `new`
 abbrev pub moved_faults : Scanned → Scanned → List Fault → List Fault
 moved_faults old new faults = map (fault_at new) (map (tokens_of old.tokens) faults)
 
--- states that the faults of two texts are at the same tokens
+-- holds if the faults `before` and `after` of two texts are at the same tokens, with the same
+-- codes, one by one
 pub record AreAtSameTokens (old new : Scanned) (before after : List Fault) : Type 0 where
   pub tokens : List FaultAt
   pub in_old : before ≡ map (fault_at old) tokens

@@ -1,4 +1,4 @@
--- Defines trees with labels in place of their tokens.
+-- Trees with labels in place of their tokens.
 -- Rule: none; for contracts: trees with labels.
 use Rattle.std.specs.Prelude.{ℕ}
 use Rattle.ob0_tree.specs.Tree.{Sort, Tree, mapped}
@@ -10,6 +10,6 @@ use Rattle.ob0_scope_table.specs.Resolution.{Resolution, label_at}
 abbrev pub label_in : Resolution → ℕ → Label
 label_in r token = label_at r.module_read.source r.ordinals token
 
--- returns a tree with labels instead of tokens
+-- returns a tree with the label of each identifier in place of its token
 abbrev pub in_labels : {s : Sort} → Resolution → Tree ℕ s → Tree Label s
 in_labels r t = mapped (label_in r) (value_at r.module_read.source) t

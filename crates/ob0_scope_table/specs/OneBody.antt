@@ -1,5 +1,5 @@
--- Defines a change inside the statements of one block: its place, and the parts outside that stay
--- the same.
+-- A change of tokens inside the statements of one block: its place, and the tokens outside, which
+-- stay the same.
 -- Rule: none; for contracts: what stays where the tokens of one body are written otherwise.
 use Rattle.std.specs.Prelude.{◌≡◌, ℕ, Bool, true, false, ◌&&◌, ◌||◌, nat_le, nat_lt, List, [], ◌∷◌, if◌then◌else◌, slice_get}
 use Rattle.ob0_scan.specs.Reused.{kinds, words_in}
@@ -9,7 +9,7 @@ use Rattle.ob0_tree.specs.Tree.{Tree, block, body, declares, declares_procedure,
 use Rattle.ob0_tree.specs.declared.tree.Role.{Role}
 use Rattle.ob0_tree.specs.declared.tree.Role.TheVariants as role
 
--- true for a token before or after a range of tokens
+-- returns true for a token before `low`, or at or after `high`
 abbrev pub is_out : ℕ → ℕ → ℕ → Bool
 is_out low high token = nat_lt token low || nat_le high token
 
@@ -17,37 +17,41 @@ is_out low high token = nat_lt token low || nat_le high token
 abbrev pub closing_name : {N : Type 0} → Tree N (item procedure) → N
 closing_name (declares_procedure x fs b closing) = closing
 
--- true if there is an identifier and the first one isn't after the token `low`
+-- returns true if the list has an identifier and its first one isn't after the token `low`
 abbrev pub begins_by : ℕ → List (Role × ℕ) → Bool
 begins_by low [] = false
 begins_by low (x ∷ xs) = nat_le x.1 low
 
--- true if a range of tokens is inside the statements of one block
+-- Returns true if the tokens from `low` up to, but not including, `high` are inside the statements
+-- of one block.
 abbrev mutual
-  -- true if the range is in the statements of a block, or of a block in it
+  -- returns true if the tokens from `low` up to `high` are in the statements of a block, or of a
+  -- block inside it
   pub is_in_block : ℕ → ℕ → Tree ℕ block → Bool
   is_in_block low high (has_body (declares cs ts vs ps) statements) =
       is_in_procedures low high ps statements
 
-  -- True if the range is in the first procedure that doesn't close before it; the range may extend
-  -- up to its closing name. If all procedures close before the range, it must be in the block's own
-  -- statements, starting at their first identifier.
+  -- Returns true if the range from `low` to before `high` is in the first procedure whose closing
+  -- name isn't before `low`. If there is no such procedure, the range must begin at or after the
+  -- first identifier of the block's own statements.
   pub is_in_procedures : ℕ → ℕ → Tree ℕ (items procedure) → Tree ℕ (maybe body) → Bool
   is_in_procedures low high end statements = begins_by low (identifiers role.Declaring statements)
   is_in_procedures low high (more p ps) statements =
       if nat_lt (closing_name p) low then is_in_procedures low high ps statements
       else nat_le high (closing_name p) && is_in_procedure low high p
 
-  -- true if the range is in the statements of a procedure's block
+  -- returns true if the tokens from `low` up to `high` are in the statements of a procedure's
+  -- block, or of a block inside it
   pub is_in_procedure : ℕ → ℕ → Tree ℕ (item procedure) → Bool
   is_in_procedure low high (declares_procedure x fs b closing) = is_in_block low high b
 
--- true if a range of tokens is inside the statements of one block of a module
+-- returns true if the tokens from `low` up to `high` are inside the statements of one block of a
+-- module
 abbrev pub is_in_body : ℕ → ℕ → Tree ℕ module_text → Bool
 is_in_body low high (is_module x b closing) = nat_le high closing && is_in_block low high b
 
--- States that a module is over changed tokens. Their kinds are the same as before. Their spellings
--- are also the same, except in a range inside one body.
+-- Holds if a module has changed tokens. Their kinds are the same as in `old`. Their spellings are
+-- also the same, except in the range from `low` up to `high`, which is inside one body.
 pub record IsBodyChange (old : Scanned) (m : Parsed) (low high : ℕ) : Type 0 where
   pub old_scan : IsScan old
   pub new_scan : IsScan m.source

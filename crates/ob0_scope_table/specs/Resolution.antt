@@ -1,4 +1,4 @@
--- Defines a resolved module: the declaration to which each name is bound, and the faults of names.
+-- A resolved module: the declaration to which each name is bound, and the faults of names.
 -- Rule: docs/LANGUAGE.md, Scopes, Faults of scopes and types, `Undeclared`.
 use Rattle.std.specs.Prelude.{◌≡◌, ℕ, ◌-◌, nat_lt, Bool, true, false, not, ◌==◌, List, [], ◌∷◌, ◌++◌, Option, None, slice_get, slice_index_or, if◌then◌else◌, is_some}
 use Rattle.std.specs.List.{filter, list_any}
@@ -37,32 +37,34 @@ declaring_only ((role.ClosingName, n) ∷ xs) = declaring_only xs
 declaring_only ((role.FieldName, n) ∷ xs) = declaring_only xs
 declaring_only ((role.ModuleName, n) ∷ xs) = declaring_only xs
 
--- returns the token that declares the object with an ordinal; None for the predeclared names
+-- returns the token that declares the object with this ordinal; None for a predeclared name, and if
+-- there is no such ordinal
 abbrev pub token_declaring : List ℕ → ℕ → Option ℕ
 token_declaring declarations ordinal =
     if nat_lt ordinal predeclared_count
     then None
     else slice_get declarations (ordinal - predeclared_count)
 
--- true for the label of an unbound name
+-- returns true for the label of an unbound name
 abbrev pub is_unbound : Label → Bool
 is_unbound (declared k) = false
 is_unbound (as_written x) = true
 
--- true for a duplicate declaration or a wrong closing name
+-- returns true for a duplicate declaration or a wrong closing name
 abbrev pub is_of_declarations : Fault → Bool
 is_of_declarations fault =
     elim (fault.code) [ code.Duplicate ↦ true | code.EndName ↦ true | _ ↦ false ]
 
--- true for an undeclared name
+-- returns true for an undeclared name
 abbrev pub is_of_occurrences : Fault → Bool
 is_of_occurrences fault = elim (fault.code) [ code.Undeclared ↦ true | _ ↦ false ]
 
--- returns the span of a token, in bytes
+-- returns the span of a token, in bytes; if there is no such token, an empty span at the text's
+-- start
 abbrev pub span_at : Scanned → ℕ → Span
 span_at source token = spans.span_at source token
 
--- returns a fault for each occurrence that a table leaves unbound
+-- returns a fault `Undeclared` for each of these occurrences that is unbound in a table
 abbrev pub undeclared_at : Scanned → List (Option ℕ) → List ℕ → List Fault
 undeclared_at source ordinals [] = []
 undeclared_at source ordinals (token ∷ tokens) =
@@ -80,14 +82,13 @@ pub record Resolution : Type 0 where
   pub uses : List ℕ
   pub faults : List Fault
 
--- Holds if the table of ordinals gives the numbered tree: each identifier of the tree has the
--- ordinal of its declaration.
+-- Holds if the table of ordinals gives the labels of the module's numbered tree.
 abbrev pub IsNumbering : Parsed → List (Option ℕ) → Type 0
 IsNumbering m ordinals =
     numbered (named_tree_of m) ≡ mapped (label_at m.source ordinals) (value_at m.source) (tree_of m)
 
--- returns the most detailed label: the ordinal of the declaration, if there is one, and the name's
--- spelling
+-- returns a name's spelling together with the ordinal of its declaration, which is None for an
+-- unbound name
 abbrev pub with_ordinal : Labels Name (Option ℕ × Name)
 with_ordinal ordinal x = (ordinal, x)
 
@@ -95,13 +96,15 @@ with_ordinal ordinal x = (ordinal, x)
 abbrev pub bound_at : Scanned → List (Option ℕ) → ℕ → Option ℕ × Name
 bound_at source ordinals token = (ordinal_in ordinals token, text_at source token)
 
--- holds if the table of ordinals agrees with the scopes of the module
+-- Holds if the table of ordinals gives each identifier the ordinal of its declaration by the scope
+-- rules, or None if it is unbound.
 abbrev pub IsBinding : Parsed → List (Option ℕ) → Type 0
 IsBinding m ordinals =
     relabelled as_names with_ordinal (named_tree_of m)
     ≡ mapped (bound_at m.source ordinals) (value_at m.source) (tree_of m)
 
--- returns a fault for each unbound occurrence in a list
+-- returns a fault `Undeclared` for each of these occurrences that is unbound by its label in the
+-- second list
 abbrev pub unbound_at : Scanned → List ℕ → List Label → List Fault
 unbound_at source [] labels = []
 unbound_at source (token ∷ tokens) [] = []
@@ -115,7 +118,7 @@ unbound_at source (token ∷ tokens) (label ∷ labels) =
 abbrev pub unbound_in : Parsed → List Fault
 unbound_in m = unbound_at m.source (occurrences (tree_of m)) (bindings (named_tree_of m))
 
--- States that these are the faults of a module. Duplicate declarations and wrong closing names come
+-- Holds if these are the faults of a module. Duplicate declarations and wrong closing names come
 -- first, then one fault for each undeclared name, in text order. There are faults of the first two
 -- kinds exactly if a name is declared twice or a closing name is wrong.
 pub record AreFaultsOf (m : Parsed) (faults : List Fault) : Type 0 where
@@ -123,7 +126,7 @@ pub record AreFaultsOf (m : Parsed) (faults : List Fault) : Type 0 where
   pub declared_twice : list_any is_of_declarations faults ≡ not (declared_once (named_tree_of m))
   pub undeclared : filter is_of_occurrences faults ≡ unbound_in m
 
--- true if an identifier of the module is at this token
+-- returns true if an identifier of the module is at this token
 abbrev pub is_identifier_of : Parsed → ℕ → Bool
 is_identifier_of m token = list_any (λ i. i == token) (leaves (tree_of m))
 
@@ -132,7 +135,8 @@ abbrev pub NamesAlone : Parsed → List (Option ℕ) → Type 0
 NamesAlone m ordinals =
     (token : ℕ) → is_identifier_of m token ≡ false → ordinal_in ordinals token ≡ None
 
--- states that the names of a module are resolved correctly
+-- Holds if the ordinals, declaring tokens, occurrences and faults of a resolved module are correct
+-- for its text.
 pub record IsResolution (r : Resolution) : Type 0 where
   pub parsed : IsParsed r.module_read
   pub numbering : IsNumbering r.module_read r.ordinals

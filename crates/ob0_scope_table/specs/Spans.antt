@@ -1,4 +1,4 @@
--- Defines the spans of tokens.
+-- The spans of tokens.
 -- Rule: none; for contracts: places of tokens.
 use Rattle.std.specs.Prelude.{ℕ, Bool, nat_le, ◌&&◌, Option, Some, None, slice_get}
 use Rattle.ob0_scan.specs.declared.lexeme.Span.{Span}
@@ -14,6 +14,6 @@ span_in (Some t) = t.span
 abbrev pub span_at : Scanned → ℕ → Span
 span_at source token = span_in (slice_get source.tokens token)
 
--- true if a place is in a span or at its end
+-- returns true if a byte offset is in a span or at its end
 abbrev pub is_on : ℕ → Span → Bool
 is_on offset span = nat_le span.start offset && nat_le offset span.end

@@ -1,5 +1,4 @@
-//! Describes faults by their tokens, so that they can be moved to a text whose tokens have the same
-//! spellings.
+//! Describes faults by their tokens, so that they can be moved to the same tokens of a text with the same spellings.
 
 ghost use Rattle.std.specs.Prelude.{◌≡◌, ◌≤◌, IfOk, length, map, nat_lt};
 ghost use Rattle.std.specs.List.Sorted.{IsNonDecreasingBy, IsPartitionPoint};
@@ -79,8 +78,8 @@ fn place_fault(tokens: &Tokens, fault: &FaultAt) -> Fault
     }
 }
 
-/// Returns the index of the first token that doesn't begin before a place, found by binary search.
-/// For place 0 it is the number of tokens.
+/// Returns the index of the first token that doesn't begin before a place, found by binary search. Returns the number
+/// of tokens for place 0, because place 0 counts as a place at which no token begins.
 fn token_begun(tokens: &[Token], place: usize) -> usize
     ensures { IsNonDecreasingBy (λ (t : token.Token). t.span.start) tokens.now
         → result ≡ begun_at tokens.now place }
@@ -91,8 +90,8 @@ fn token_begun(tokens: &[Token], place: usize) -> usize
     tokens.partition_point(|token| (token.span.start as usize) < place)
 }
 
-/// Returns the index of the first token that doesn't end before a place, found by binary search.
-/// For place 0 it is the number of tokens.
+/// Returns the index of the first token that doesn't end before a place, found by binary search. Returns the number of
+/// tokens for place 0, because no token ends at place 0.
 fn token_ended(tokens: &[Token], place: usize) -> usize
     ensures { IsNonDecreasingBy (λ (t : token.Token). t.span.end) tokens.now
         → result ≡ ended_at tokens.now place }

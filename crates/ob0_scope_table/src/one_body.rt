@@ -27,8 +27,8 @@ pub fn is_in_body(read: &Module<'_>, low: usize, high: usize) -> bool
     place_in_module(read, low, high).is_some()
 }
 
-/// Returns the place of the body that contains the tokens from `low` up to, but not including,
-/// `high`. None if no body contains them.
+/// Returns the place of the body that contains the tokens from `low` up to, but not including, `high`. Returns None if
+/// no body contains them.
 pub fn place_of_body(tree: &ModuleTree, low: usize, high: usize) -> Option<BodyPlace>
     ensures { result ≡ body_place low high (tree_in tree.now) }
 {
@@ -38,8 +38,8 @@ pub fn place_of_body(tree: &ModuleTree, low: usize, high: usize) -> Option<BodyP
     place_in_block(&tree.block, tree.closing, low, high)
 }
 
-/// Returns the place of the body of a module that contains the tokens from `low` up to, but not
-/// including, `high`. None if no body contains them.
+/// Returns the place of the body of a module that contains the tokens from `low` up to, but not including, `high`.
+/// Returns None if no body contains them.
 pub fn place_in_module(read: &Module<'_>, low: usize, high: usize) -> Option<BodyPlace>
     ensures { result ≡ body_place low high (tree_of read.now) }
 {
@@ -49,6 +49,8 @@ pub fn place_in_module(read: &Module<'_>, low: usize, high: usize) -> Option<Bod
     place_in_block(read.block(), read.closing(), low, high)
 }
 
+/// Returns the place of the body, in this block or a procedure inside it, that contains the tokens from `low` to before
+/// `high`. `closing` is the block's closing name. Returns None if no body contains them.
 #[cycle(places)]
 fn place_in_block(b: &Block, closing: usize, low: usize, high: usize) -> Option<BodyPlace>
     ensures { result ≡ place_in_block low high closing (block_of b.now) }
@@ -64,6 +66,8 @@ fn place_in_block(b: &Block, closing: usize, low: usize, high: usize) -> Option<
     place_of_statements(&b.body, closing, low)
 }
 
+/// Returns the place of the body, in this procedure or one inside it, that contains the tokens from `low` to before
+/// `high`. Returns None if no body contains them.
 #[cycle(places)]
 fn place_in_procedure(p: &Procedure, low: usize, high: usize) -> Option<BodyPlace>
     ensures { result ≡ place_in_procedure low high (procedure_of p.now) }
@@ -71,8 +75,8 @@ fn place_in_procedure(p: &Procedure, low: usize, high: usize) -> Option<BodyPlac
     place_in_block(&p.block, p.closing, low, high)
 }
 
-/// Returns the place of some statements if they have an identifier and the first one isn't after
-/// the token `low`. Otherwise None.
+/// Returns the place of these statements, whose block has this closing name. Returns None if they have no identifier,
+/// or their first one is after the token `low`.
 fn place_of_statements(
     statements: &Option<Vec<Statement>>,
     closing: usize,

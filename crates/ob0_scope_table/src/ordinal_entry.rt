@@ -5,7 +5,7 @@ ghost use Rattle.ob0_scope_table.specs.Entries.{kept};
 
 use std::marker::Model;
 
-/// The greatest ordinal that an entry can have.
+/// The greatest ordinal that an entry can have: 2^32 - 2.
 const GREATEST: usize = 4294967294;
 
 /// An optional ordinal in 32 bits: the ordinal plus 1, or 0 for None. A text has far fewer
@@ -27,8 +27,7 @@ impl Model for OrdinalEntry {
 }
 
 impl OrdinalEntry {
-    /// Returns the entry of an ordinal, or of none. An ordinal above the greatest one counts as the
-    /// greatest.
+    /// Returns the entry of an optional ordinal. An ordinal above the greatest one counts as the greatest.
     pub fn new(ordinal: Option<usize>) -> OrdinalEntry
         ensures { result ≡ kept ordinal }
     {
@@ -40,7 +39,7 @@ impl OrdinalEntry {
         }
     }
 
-    /// Returns the ordinal of an entry, if it has one.
+    /// Returns the ordinal of an entry, or None if it has none.
     pub fn ordinal(self) -> Option<usize>
         ensures { result ≡ self }
     {

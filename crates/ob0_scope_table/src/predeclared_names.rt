@@ -4,12 +4,17 @@
 /// the ordinals 0 to 6.
 pub const PREDECLARED: usize = 7;
 
+/// The ordinal of TRUE.
 pub const TRUE: usize = 2;
 
+/// The ordinal of FALSE.
 pub const FALSE: usize = 3;
 
+/// The ordinal of Read.
 pub const READ: usize = 4;
 
+/// The ordinal of Write.
 pub const WRITE: usize = 5;
 
+/// The ordinal of WriteLn.
 pub const WRITE_LN: usize = 6;

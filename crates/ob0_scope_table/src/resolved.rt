@@ -101,8 +101,8 @@ impl<'t> Resolved<'t> {
         self.module.tokens()
     }
 
-    /// Returns the ordinal of the declaration to which an occurrence is bound. Occurrences are
-    /// counted from 0 in text order. None if the occurrence is unbound or doesn't exist.
+    /// Returns the ordinal of the declaration to which the occurrence with this number is bound. Occurrences are
+    /// counted from 0 in text order. Returns None if the occurrence is unbound or doesn't exist.
     pub fn declaration_of(&self, occurrence: usize) -> Option<usize>
         ensures { result ≡ binds (named_tree_of self.now.module_read) occurrence }
     {
@@ -121,32 +121,31 @@ impl<'t> Resolved<'t> {
         self.bindings().occurrences.get(occurrence).copied()
     }
 
-    /// Returns the ordinal of the declaration of the identifier at a token. A looked-up name has
-    /// the ordinal to which it is bound, a declaring name has its own, and a procedure's closing
-    /// name has the procedure's. None at a field, at the module's name, at an unbound name and at
-    /// any other token.
+    /// Returns the ordinal of the declaration of the identifier at a token. A looked-up name has the ordinal to which
+    /// it is bound, a declaring name has its own, and a procedure's closing name has the procedure's. Returns None at a
+    /// field, at the module's name, at an unbound name and at any other token.
     pub fn ordinal_at(&self, token: usize) -> Option<usize>
         ensures { result ≡ ordinal_in self.now.ordinals token }
     {
         ordinal_at(&self.bindings().ordinals, token)
     }
 
-    /// Returns the ordinals by token.
+    /// Returns the table of ordinals by token.
     pub fn ordinals(&self) -> &[OrdinalEntry]
         ensures { result.now ≡ self.now.ordinals }
     {
         self.bindings().ordinals.as_slice()
     }
 
-    /// Returns the tokens of the declaring names, in text order; the first has the ordinal 7.
+    /// Returns the tokens of the declaring names, in text order. The first name has the ordinal 7.
     pub fn declarations(&self) -> &[usize]
         ensures { result.now ≡ self.now.declarations }
     {
         self.bindings().declarations.as_slice()
     }
 
-    /// Returns the token that declares the object with this ordinal. None for a predeclared name,
-    /// and if there is no such ordinal.
+    /// Returns the token that declares the object with this ordinal. Returns None for a predeclared name, and if there
+    /// is no such ordinal.
     pub fn declaring_token(&self, ordinal: usize) -> Option<usize>
         ensures { result ≡ token_declaring self.now.declarations ordinal }
     {

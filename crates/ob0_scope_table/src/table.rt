@@ -20,7 +20,7 @@ pub fn ordinal_at(ordinals: &[OrdinalEntry], token: usize) -> Option<usize>
     }
 }
 
-/// Returns true if there is an ordinal and it is this one.
+/// Returns true if `found` is an ordinal and equals `ordinal`.
 pub fn same_ordinal(found: Option<usize>, ordinal: usize) -> bool
     ensures { result ≡ same_ordinal found ordinal }
 {

@@ -1,4 +1,4 @@
--- Defines how the reads of a device are counted.
+-- The counts of a device's reads.
 -- Rule: none; for contracts: the calls of a device.
 use Rattle.std.specs.Prelude.{◌+◌, ◌-◌, ◌^◌, ℕ, min, max}
 

@@ -14,7 +14,7 @@ use thiserror::Error;
 #[error("the device failed")]
 pub struct DeviceFault;
 
-/// A device from which bytes are read.
+/// A device from which bytes are read. Its ghost members record the calls.
 pub trait InputDevice {
     // Returns the bytes that are left to read, or None if they aren't known.
     ghost remaining: { Self → Option (List ℕ) };
@@ -34,7 +34,7 @@ pub trait InputDevice {
         ensures reads { reads self.new ≡ with_read (length buf.new) (reads self.old) };
 }
 
-/// A device to which bytes are written.
+/// A device to which bytes are written. Its ghost members record the calls.
 pub trait OutputDevice {
     // Returns the bytes that were written, or None if they aren't known.
     ghost contents: { Self → Option (List ℕ) };

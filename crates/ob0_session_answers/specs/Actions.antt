@@ -36,7 +36,8 @@ pub record RequestedActions : Type 0 where
   pub range : Range
   pub only : Option (List (List ℕ))
 
--- Returns the meaning of the code's request for code actions in a document of this version.
+-- Returns the code's request for code actions, in a document of this version, as a request of the
+-- definitions.
 abbrev pub actions_requested : ActionsRequest → ℤ → RequestedActions
 actions_requested r version =
     record {
@@ -63,6 +64,8 @@ allows_inlining None = true
 abbrev pub takes_inlining : Client → Option (List (List ℕ)) → Bool
 takes_inlining client only = client.takes_literal_actions && allows_inlining only
 
+-- Returns true if the client accepts actions that aren't commands, and this request allows
+-- inlining.
 abbrev pub wants_inlining : RequestedActions → Bool
 wants_inlining requested = takes_inlining requested.client requested.only
 
@@ -84,7 +87,8 @@ abbrev pub action_of : RequestedActions → Inlining → List Edit → Data
 action_of requested how edits =
     action_value (workspace_edit requested.client requested.uri requested.version edits) (title how)
 
--- Returns a list of one action, or no actions if its edits are refused (None).
+-- Returns a list of one action that applies these edits; for None, which means that the edits are
+-- refused, an empty list
 abbrev pub action_values : RequestedActions → Inlining → Option (Vec Edit Global) → List Data
 action_values requested how (Some edits) = action_of requested how edits.items ∷ []
 action_values requested how None = []
@@ -118,15 +122,15 @@ ListsActions unit requested text value =
     ⊎ (((wants_inlining requested ≡ false) ⊎ ¬ IsWellTypedModule (utf8 text))
     × (value ≡ array no_items))
 
--- Holds if the message answers the request for a document with this text. Positions are counted in
--- this unit.
+-- Holds if the message answers the request for code actions in a document with this text. Positions
+-- are counted in this unit.
 abbrev pub AnswersActions : Unit → RequestedActions → List ℕ → Data → Type 0
 AnswersActions unit requested text message =
     (value : Data)
     × ListsActions unit requested text value
     × (message ≡ result_message requested.id value)
 
--- Holds if the content is the text of a message that answers the request.
+-- Holds if the content is the text of a message that answers the request for code actions.
 abbrev pub RepliesToActions : Unit → RequestedActions → List ℕ → List ℕ → Type 0
 RepliesToActions unit requested text content =
     (message : Data) × AnswersActions unit requested text message × Writes message content

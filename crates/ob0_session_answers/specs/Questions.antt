@@ -23,7 +23,7 @@ use Rattle.ob0_session_json.specs.Shapes.{hover_value, location_in}
 pub data NameQuestion : Type 0 where
   hover_asked : NameQuestion
   definition_asked : NameQuestion
-  -- Asks for references. The truth value says whether the declaration is included.
+  -- A question for references. The Bool says whether the declaration is included.
   references_asked : Bool → NameQuestion
   renaming_asked : NameQuestion
 
@@ -52,6 +52,7 @@ abbrev pub offset_in : Unit → List ℕ → At → ℕ
 offset_in unit text at = offset_of (width_of unit) text at.position
 
 -- Holds if the value lists the locations of all references and of nothing else, in text order.
+-- `include` says whether the declaration is one of them.
 abbrev pub AnswersReferences : Unit → List ℕ → At → Bool → Resolution → Data → Type 0
 AnswersReferences unit text at include names value =
     (spans : List Span)

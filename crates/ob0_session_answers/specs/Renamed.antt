@@ -26,7 +26,8 @@ pub record RequestedRename : Type 0 where
   pub version : ℤ
   pub new : List ℕ
 
--- Returns the meaning of the code's request for renaming in a document of this version.
+-- Returns the code's request for renaming, in a document of this version, as a request of the
+-- definitions.
 abbrev pub rename_requested : RenameRequest → ℤ → RequestedRename
 rename_requested r version =
     record {
@@ -42,8 +43,8 @@ abbrev pub edits_for_client : RequestedRename → List Edit → Data
 edits_for_client requested edits =
     workspace_edit requested.client requested.at.uri requested.version edits
 
--- Holds if the message answers the request for a document with this text. Positions are counted in
--- this unit.
+-- Holds if the message answers the request for renaming in a document with this text: with edits,
+-- or with a refusal. Positions are counted in this unit.
 abbrev pub AnswersRenaming : Unit → RequestedRename → List ℕ → Data → Type 0
 AnswersRenaming unit requested text message =
     ((edits : List Edit)
@@ -54,7 +55,7 @@ AnswersRenaming unit requested text message =
     × (message ≡ edit_refused requested.id (refusal_text refusal)))
     ⊎ (¬ IsWellTypedModule (utf8 text) × (message ≡ edit_refused requested.id (codes "ill-typed"))))
 
--- Holds if the content is the text of a message that answers the request.
+-- Holds if the content is the text of a message that answers the request for renaming.
 abbrev pub RepliesToRename : Unit → RequestedRename → List ℕ → List ℕ → Type 0
 RepliesToRename unit requested text content =
     (message : Data) × AnswersRenaming unit requested text message × Writes message content

@@ -70,16 +70,16 @@ impl<'a, T: TextStore> DocumentRequest<T> for ActionsRequest<'a> {
 }
 
 impl<'a> ActionsRequest<'a> {
-    /// Returns whether the client accepts actions that aren't commands, and inlining is of a
-    /// requested kind or all kinds are requested.
+    /// Returns true if the client accepts actions that aren't commands, and inlining is of a requested kind or all
+    /// kinds are requested.
     fn wants_inlining(&self) -> bool
         ensures { result ≡ wants self.now.client (kinds_seen self.now.only.now) }
     {
         self.client.takes_literal_actions && allows_inlining(self.only)
     }
 
-    /// Returns the answer that lists the offered actions: first inlining at this use, then inlining
-    /// everywhere.
+    /// Returns the answer that lists the offered actions: first inlining at this use, then inlining everywhere. An
+    /// action whose edits are None isn't offered.
     fn list(&self, alloc: Global, version: i64, found: &Inlinings) -> Result<Vec<u8>, AllocError>
         ensures { IfOk result (λ bytes. Writes (result_message (id_data self.now.id.now)
             (actions_value (actions_requested self.now version)
@@ -104,6 +104,7 @@ impl<'a> ActionsRequest<'a> {
         }
     }
 
+    /// Returns the answer that lists one action, which applies these edits.
     fn list_one(
         &self,
         alloc: Global,
@@ -119,7 +120,7 @@ impl<'a> ActionsRequest<'a> {
         result_of(alloc, self.id, &actions.as_slice())
     }
 
-    /// Returns the action that applies these edits.
+    /// Returns the code action that applies these edits to the document at this version. `how` gives its title.
     fn action<'b>(&'b self, version: i64, how: Inlining, edits: &'b [Edit]) -> CodeAction<'b>
         ensures { action_in result ≡ action_of (actions_requested self.now version) how edits.now }
     {
@@ -134,6 +135,7 @@ impl<'a> ActionsRequest<'a> {
     }
 }
 
+/// Returns the answer that lists no action.
 fn no_actions(alloc: Global, id: &Id) -> Result<Vec<u8>, AllocError>
     ensures { IfOk result
         (λ bytes. Writes (result_message (id_data id.now) (array no_items)) bytes.items) }
@@ -142,6 +144,7 @@ fn no_actions(alloc: Global, id: &Id) -> Result<Vec<u8>, AllocError>
     result_of(alloc, id, &none.as_slice())
 }
 
+/// Returns true if all kinds are requested (None), or inlining is of a requested kind.
 fn allows_inlining(only: &Option<Vec<String>>) -> bool
     ensures { result ≡ allows (kinds_seen only.now) }
 {
@@ -151,6 +154,7 @@ fn allows_inlining(only: &Option<Vec<String>>) -> bool
     }
 }
 
+/// Returns true if inlining is an action of one of these kinds.
 fn any_of_kind(kinds: &[String]) -> bool
     ensures { result ≡ list_any of_kind (map string_bytes kinds.now) }
 {
@@ -162,13 +166,14 @@ fn any_of_kind(kinds: &[String]) -> bool
     false
 }
 
-/// Returns whether inlining is an action of this kind.
+/// Returns true if inlining is an action of this kind.
 fn is_of_kind(kind: &str) -> bool
     ensures { result ≡ of_kind kind.now }
 {
     kind == "" || kind == "refactor" || kind == "refactor.inline"
 }
 
+/// Returns the title of an action.
 fn title_of(how: Inlining) -> &'static str
     ensures { result.now ≡ title how }
 {

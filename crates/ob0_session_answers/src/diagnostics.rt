@@ -88,7 +88,8 @@ fn offsets_of(alloc: Global, reported: &[Diagnosis]) -> Result<Vec<usize>, Alloc
     Ok(offsets)
 }
 
-/// Returns the diagnostics with their positions, which are looked up in a list of byte offsets.
+/// Returns the diagnostics with their positions, which are looked up in `positions`, the positions of the ascending
+/// byte offsets `offsets`.
 fn list_diagnostics<T: TextStore>(
     alloc: Global,
     store: &T,
@@ -111,8 +112,8 @@ fn list_diagnostics<T: TextStore>(
     Ok(list)
 }
 
-/// Returns the position of a byte offset, from the positions of a list of offsets if it is found
-/// there.
+/// Returns the position of a byte offset. It is looked up in `positions` if the list `offsets` has the offset,
+/// otherwise the store computes it.
 fn position_at<T: TextStore>(
     store: &T,
     offsets: &[usize],

@@ -206,6 +206,7 @@ impl<'a, T: TextStore> DocumentRequest<T> for PrepareRenameRequest<'a> {
     }
 }
 
+/// Returns the answer with a hover text and its range, or with null for None.
 fn hover_or_null<T: TextStore>(
     alloc: Global,
     id: &Id,
@@ -228,6 +229,7 @@ fn hover_or_null<T: TextStore>(
     }
 }
 
+/// Returns the answer with a span's location, or with null for None.
 fn location_or_null<T: TextStore>(
     alloc: Global,
     id: &Id,
@@ -249,6 +251,7 @@ fn location_or_null<T: TextStore>(
     }
 }
 
+/// Returns the answer with a span's range, or with null for None.
 fn range_or_null<T: TextStore>(
     alloc: Global,
     id: &Id,

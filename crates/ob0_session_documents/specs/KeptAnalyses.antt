@@ -7,7 +7,8 @@ use Rattle.lru.specs.LruCache.{LruCache}
 use Rattle.ob0_text.specs.OpenDocuments.{OpenDocuments, InStep, document_at}
 use Rattle.ob0_session_documents.specs.declared.analyses.Analyses.{Analyses}
 
--- Holds if the cache contains an analysis of the text under the uri. No cache (None) contains none.
+-- Holds if the cache contains an analysis of the text under the uri. Never holds for None, which
+-- means that there is no cache.
 abbrev pub IsIn : Option (LruCache (String Global) (List ℕ)) → List ℕ → List ℕ → Type 0
 IsIn None uri text = ⊥
 IsIn (Some cache) uri text =
@@ -17,18 +18,19 @@ IsIn (Some cache) uri text =
 abbrev pub KeepsAnalysis : Analyses → List ℕ → List ℕ → Type 0
 KeepsAnalysis analyses = IsIn analyses.by_uri
 
--- Holds if every analysis kept now was kept before.
+-- Holds if every analysis that is in `new` was in `old`.
 abbrev pub KeepsOnly : Analyses → Analyses → Type 0
 KeepsOnly old new = (uri text : List ℕ) → KeepsAnalysis new uri text → KeepsAnalysis old uri text
 
--- Holds if every analysis kept now was kept before and belongs to a document other than this one.
+-- Holds if every analysis that is in `new` was in `old`, and belongs to a document other than this
+-- one.
 abbrev pub KeepsOthers : Analyses → List ℕ → Analyses → Type 0
 KeepsOthers old document new =
     (uri text : List ℕ)
     → KeepsAnalysis new uri text
     → KeepsAnalysis old uri text × (uri ≡ document → ⊥)
 
--- Holds if every analysis kept now was kept before, or is of this document and this text.
+-- Holds if every analysis that is in `new` was in `old`, or is of this document and this text.
 abbrev pub KeepsAlso : Analyses → List ℕ → List ℕ → Analyses → Type 0
 KeepsAlso old document its_text new =
     (uri text : List ℕ) → KeepsAnalysis new uri text

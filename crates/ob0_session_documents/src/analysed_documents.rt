@@ -140,8 +140,8 @@ impl<T: TextStore> AnalysedDocuments<T> {
         }
     }
 
-    /// Analyses the text of a document and keeps the result. The analysis of its previous text, if
-    /// there is one, is reused. If the document isn't open or is out of step, nothing happens.
+    /// Analyses the text of a document and keeps the result. `before` is the analysis of its previous text, or None; it
+    /// is reused. If the document isn't open or is out of step, nothing happens.
     fn analyse(&mut self, uri: &str, before: Option<Analysis>) -> Result<(), AllocError>
         ensures { self.new ≡ self.old }
     {
@@ -155,7 +155,7 @@ impl<T: TextStore> AnalysedDocuments<T> {
     }
 }
 
-/// Returns the analysis of a text. The analysis of an earlier text, if there is one, is reused.
+/// Returns the analysis of a text. `before` is the analysis of an earlier text, or None; it is reused.
 fn analysis_after(
     alloc: Global,
     before: Option<Analysis>,

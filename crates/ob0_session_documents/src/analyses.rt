@@ -16,8 +16,8 @@ use std::alloc::{AllocError, Global};
 /// texts. A single analysis may be larger.
 const MAX_BYTES: usize = 4_198_400;
 
-/// The number of bytes that each analysis counts for, in addition to the bytes of its uri and of
-/// its data. This also bounds the number of analyses of empty texts.
+/// The number of bytes that each analysis counts for, in addition to the bytes of its uri and of its data. It also
+/// bounds the number of kept analyses of empty texts.
 const BYTES_PER_ANALYSIS: usize = 1_024;
 
 /// Analyses of texts, by the uris of their documents. An added analysis may be dropped at any time.
@@ -81,6 +81,7 @@ impl Analyses {
         self.insert(uri, analysis)
     }
 
+    /// Adds the analysis of a document to the cache, which is made if there is none.
     fn insert(&mut self, uri: &str, analysis: Analysis) -> Result<(), AllocError>
         ensures { KeepsAlso self.old uri.now analysis self.new }
     {
@@ -94,8 +95,8 @@ impl Analyses {
         Ok(())
     }
 
-    /// Adds this many bytes to the total, and drops the least recently used analyses. It stops when
-    /// the total is within the bound or no analysis is left.
+    /// Adds this many bytes to the total, and drops the least recently used analyses. It stops when the total is within
+    /// the bound or no analysis is left.
     fn free(&mut self, bytes: usize)
         ensures { KeepsOnly self.old self.new }
     {
@@ -109,6 +110,7 @@ impl Analyses {
         self.bytes = counted;
     }
 
+    /// Removes the least recently used analysis and returns it with its uri. Returns None if no analysis is kept.
     fn remove_oldest(&mut self) -> Option<(String, Analysis)>
         ensures { KeepsOnly self.old self.new }
     {

@@ -14,6 +14,8 @@ pub trait DocumentRequest<T: TextStore> {
     /// and text (in characters).
     ghost answers: { Self → ℤ → Unit → List ℕ → List ℕ → Type 0 };
 
+    /// Answers the request from the document's version, its text and the analysis of this text. Fails only if an
+    /// allocation fails.
     fn answer(
         &self,
         alloc: Global,

@@ -55,6 +55,7 @@ impl WriteJson for ServerCapabilities {
 }
 
 impl ServerCapabilities {
+    /// Writes the members of the capabilities after `definitionProvider`, and the closing bracket.
     fn write_further(&self, out: &mut Vec<u8>) -> Result<(), AllocError>
         ensures { OnOk result
             (AppendsMembers 44 (further_members self.now.client) out.old.items out.new.items) }
@@ -69,6 +70,7 @@ impl ServerCapabilities {
         }
     }
 
+    /// Writes the last members of the capabilities, and the closing bracket.
     fn write_last(&self, out: &mut Vec<u8>) -> Result<(), AllocError>
         ensures { OnOk result
             (AppendsMembers 44 (last_members self.now.client) out.old.items out.new.items) }

@@ -6,7 +6,7 @@ use ob0_rpc::{Client, OneMember, WriteJson, end_object, first_member, next_membe
 use ob0_text::Edit;
 use std::alloc::AllocError;
 
-/// The edits of one document, in the form that the client accepts: with the document's version, or
+/// The edits of one document. They are written in the form that the client accepts: with the document's version, or
 /// only with its uri.
 #[derive(Drop)]
 pub struct WorkspaceEdit<'a> {

@@ -15,11 +15,10 @@ use ob0_rpc::{
 use ob0_text::Range;
 use std::alloc::{AllocError, Global};
 
-/// The number of bytes reserved for a location's text before its uri, which is never longer.
+/// The number of bytes that a buffer reserves for a location's text before its uri. That text is never longer.
 const PREFIX_CAPACITY: usize = 192;
 
-/// The number of bytes that a location's text before its uri usually fits in. It is used to reserve
-/// room.
+/// A number of bytes that a location's text before its uri usually fits in. It is used to estimate the room for a list.
 const TYPICAL_PREFIX: usize = 96;
 
 /// A location: a range of the document with this uri.
@@ -56,6 +55,7 @@ impl<'a> WriteJson for Locations<'a> {
     }
 }
 
+/// Writes the locations of these ranges with commas between them, without brackets.
 fn write_locations(out: &mut Vec<u8>, uri: &str, ranges: &[Range]) -> Result<(), AllocError>
     ensures { OnOk result
         (AppendsEach false (map (location_in uri.now) ranges.now) out.old.items out.new.items) }

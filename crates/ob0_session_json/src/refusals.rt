@@ -9,14 +9,14 @@ use ob0_rpc::{Id, error};
 use ob0_text::EditRefusal;
 use std::alloc::{AllocError, Global};
 
-/// Returns the refusal of a request for edits, with this message.
+/// Returns the message that refuses a request for edits, with this text.
 pub fn refuse(alloc: Global, id: &Id, said: &str) -> Result<Vec<u8>, AllocError>
     ensures { IfOk result (λ bytes. Writes (edit_refused (id_data id.now) said.now) bytes.items) }
 {
     error(alloc, Some(id), -32803, said)
 }
 
-/// Returns the refusal of a request for edits, with the text of this reason as its message.
+/// Returns the message that refuses a request for edits, with the text of this refusal.
 pub fn refuse_because(alloc: Global, id: &Id, refusal: EditRefusal) -> Result<Vec<u8>, AllocError>
     ensures { IfOk result
         (λ bytes. Writes (edit_refused (id_data id.now) (refusal_text refusal)) bytes.items) }
@@ -25,7 +25,7 @@ pub fn refuse_because(alloc: Global, id: &Id, refusal: EditRefusal) -> Result<Ve
     refuse(alloc, id, text.as_str())
 }
 
-/// Returns the refusal of a request for edits in a text that isn't a well-typed module.
+/// Returns the message that refuses a request for edits in a text that isn't a well-typed module.
 pub fn refuse_ill_typed(alloc: Global, id: &Id) -> Result<Vec<u8>, AllocError>
     ensures { IfOk result
         (λ bytes. Writes (edit_refused (id_data id.now) (codes "ill-typed")) bytes.items) }

@@ -246,25 +246,28 @@ react s response = stays s nothing
 react s (request id method params) = react_to_request s.phase s id method params
 react s (notice method params) = react_to_notification s.phase s method params
 
--- Holds if these are the answers of a server that has neither ended nor failed, and this is its next state.
+-- Holds if a server that has neither ended nor failed answers this content with these messages, and
+-- `after` is its next state.
 abbrev pub AnswersGoingOn : ServerState → List ℕ → List (List ℕ) → ServerState → Type 0
 AnswersGoingOn before content sent after =
     (json : Option Data) × ReadsContent content json
     × (let r = react before (meaning json) in (after ≡ r.after) × SaysReply r.say sent)
 
--- Holds if these are the answers of a server in this phase. After its end the server sends nothing and its state is
--- unchanged. After a failed allocation no answer is allowed.
+-- Holds if a server in this phase answers this content with these messages, and `after` is its next
+-- state. After its end it sends nothing and its state is unchanged. After a failed allocation
+-- nothing is an answer.
 abbrev pub AnswersInState : Phase → ServerState → List ℕ → List (List ℕ) → ServerState → Type 0
 AnswersInState (Ended status) before content sent after = (sent ≡ []) × (after ≡ before)
 AnswersInState Failed before content sent after = ⊥
 AnswersInState phase before content sent after = AnswersGoingOn before content sent after
 
--- Holds if a server in the first state may reply to this content with these messages. It is then in the second state.
+-- Holds if a server in the state `before` may reply to this content with these messages, and is
+-- then in the state `after`.
 abbrev pub Answers : ServerState → List ℕ → List (List ℕ) → ServerState → Type 0
 Answers before content sent after = AnswersInState before.phase before content sent after
 
--- Holds if the server replies to this content first, and `Follows` holds for the resulting state and the remaining
--- messages.
+-- Holds if the server replies to this content with the first of the messages, and `Follows` holds
+-- for the resulting state and the remaining messages.
 pub record AnswersFirst (before : ServerState) (content : List ℕ) (sent : List (List ℕ))
     (Follows : ServerState → List (List ℕ) → Type 0) : Type 0 where
   pub between : ServerState
@@ -274,8 +277,8 @@ pub record AnswersFirst (before : ServerState) (content : List ℕ) (sent : List
   pub follows : Follows between later
   pub all : sent ≡ first ++ later
 
--- Holds if a server in the first state may reply to these contents, one after another, with these messages in order. It
--- is then in the second state.
+-- Holds if a server in the state `before` may reply to these contents, one after another, with
+-- these messages in order. It is then in the state `after`.
 abbrev pub Conversation : ServerState → List (List ℕ) → List (List ℕ) → ServerState → Type 0
 Conversation before [] sent after = (sent ≡ []) × (after ≡ before)
 Conversation before (content ∷ contents) sent after =

@@ -1,4 +1,4 @@
--- Defines the meaning of the code's values that hold messages.
+-- The code's messages and outcomes as replies and reactions of the definitions.
 -- Rule: none; for contracts: what values of the code mean.
 use Rattle.std.specs.Prelude.{◌≡◌, ℕ, ℤ, List, Option, Some, None, Vec, option_map, codes}
 use Rattle.std.specs.Option.{option_to_list}
@@ -11,11 +11,12 @@ use Rattle.ob0_session_documents.specs.declared.document_requests.RequestOutcome
 use Rattle.ob0_session_json.specs.Shapes.{edit_refused}
 use Rattle.ob0_session_server.specs.Answers.{ServerState, Reaction, Reply, SaysReply, says}
 
--- Holds if the code's message, or None for no message, is this reply.
+-- Holds if the code sends exactly this reply. None stands for no message.
 abbrev pub SendsReply : Reply → Option (Vec ℕ Global) → Type 0
 SendsReply reply sent = SaysReply reply (option_to_list (option_map (λ v. v.items) sent))
 
--- Holds if the reaction leads to this state and allows this message, or None for no message.
+-- Holds if the reaction leads to the state `new` and its reply is this message. None stands for no
+-- message.
 abbrev pub Reacts : Reaction → Option (Vec ℕ Global) → ServerState → Type 0
 Reacts r sent new = (new ≡ r.after) × SendsReply r.say sent
 
@@ -32,8 +33,8 @@ message_of (Answered message) = Some message
 message_of OutOfStep = None
 message_of Unopened = None
 
--- Holds if the request about the document with this uri is answered or refused, and the state is
--- unchanged.
+-- Holds if the request about the document with this uri is answered or refused with this message,
+-- and the state is unchanged.
 abbrev pub RepliesAbout : (ℤ → Unit → List ℕ → List ℕ → Type 0)
     → ServerState
     → Data

@@ -10,7 +10,7 @@ use Rattle.ob0_session_server.specs.declared.session.SessionFault.{SessionFault}
 use Rattle.ob0_session_server.specs.declared.session.SessionFault.TheVariants.{Memory, Failed}
 use Rattle.ob0_session_server.specs.declared.session.Step.{Step}
 
--- Returns whether the session continues after this phase, or has ended with a status.
+-- Returns End with the status if the session has ended in this phase, otherwise Continue.
 abbrev pub next_after : Phase → Next
 next_after (phases.Ended status) = End status
 next_after phase = Continue

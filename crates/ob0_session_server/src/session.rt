@@ -171,6 +171,7 @@ impl<T: TextStore> Session<T> {
         Ok(sent)
     }
 
+    /// Returns the message that answers a content, or None if nothing is answered.
     fn reply(&mut self, content: &[u8]) -> Result<Option<Vec<u8>>, AllocError>
         ensures { IfOk result (λ sent. AnswersGoingOn self.old content.now
             (option_to_list (option_map (λ v. v.items) sent)) self.new) }
@@ -188,6 +189,8 @@ impl<T: TextStore> Session<T> {
         }
     }
 
+    /// Returns the message that refuses a request, or a content that isn't a message, with this error. The id is then
+    /// None.
     fn refuse(&self, id: Option<&Id>, code: i32, said: &str) -> Result<Option<Vec<u8>>, AllocError>
         ensures { IfOk result (λ sent. Reacts
             (refuses self.now (id_or_null (option_map (λ i. i.now) id.entry)) code said.now) sent
@@ -196,8 +199,8 @@ impl<T: TextStore> Session<T> {
         Ok(Some(error(self.alloc, id, code, said)?))
     }
 
-    /// Answers that a message can't be read or isn't known, and why. If the reason is a failed
-    /// allocation, returns that error instead.
+    /// Returns the message that reports this fault of a message as an error. If the fault is a failed allocation,
+    /// returns that error instead.
     fn refuse_fault(&self, id: Option<&Id>, fault: RpcFault) -> Result<Option<Vec<u8>>, AllocError>
         ensures { IfOk result (λ sent. (fault ≢ RpcFault.Memory) × Reacts
             (refuses_fault self.now (id_or_null (option_map (λ i. i.now) id.entry)) fault) sent
@@ -209,6 +212,7 @@ impl<T: TextStore> Session<T> {
         Ok(Some(error(self.alloc, id, fault.code(), fault.text())?))
     }
 
+    /// Answers a request as the phase of the lifecycle requires: with its answer or with an error.
     fn reply_to_request(
         &mut self,
         id: &Id,
@@ -229,7 +233,7 @@ impl<T: TextStore> Session<T> {
         }
     }
 
-    /// Answers a request that the phase allows.
+    /// Answers a request that the phase allows. An unknown method, or params that can't be read, give an error.
     fn reply_to_known(
         &mut self,
         id: &Id,
@@ -246,6 +250,7 @@ impl<T: TextStore> Session<T> {
         }
     }
 
+    /// Answers a request of a known method.
     fn reply_to_call(&mut self, id: &Id, call: ClientRequest) -> Result<Option<Vec<u8>>, AllocError>
         ensures { IfOk result (λ sent. Reacts
             (answer_request self.old (id_data id.now) (Ok (seen_call call))) sent self.new) }
@@ -288,6 +293,7 @@ impl<T: TextStore> Session<T> {
         }
     }
 
+    /// Answers a request for references.
     fn refer(
         &mut self,
         id: &Id,
@@ -306,6 +312,7 @@ impl<T: TextStore> Session<T> {
         self.ask(id, place.uri.as_str(), &request)
     }
 
+    /// Answers a request for renaming.
     fn rename(
         &mut self,
         id: &Id,
@@ -324,6 +331,7 @@ impl<T: TextStore> Session<T> {
         self.ask(id, place.uri.as_str(), &request)
     }
 
+    /// Answers a request for code actions.
     fn act(
         &mut self,
         id: &Id,
@@ -369,6 +377,7 @@ impl<T: TextStore> Session<T> {
         self.documents = AnalysedDocuments::new(self.alloc, documents_for(self.alloc, client));
     }
 
+    /// Applies a notification as the phase of the lifecycle requires. Returns the message to send, or None.
     fn react_to_notification(
         &mut self,
         method: &str,
@@ -387,6 +396,7 @@ impl<T: TextStore> Session<T> {
         Ok(None)
     }
 
+    /// Applies a notification while the session runs. Returns the message to send, or None.
     fn handle_notification(
         &mut self,
         method: &str,
@@ -401,6 +411,7 @@ impl<T: TextStore> Session<T> {
         self.apply_notification(note)
     }
 
+    /// Ends the session on `exit`. Its status is 0 after `shutdown`, otherwise 1.
     fn end(&mut self)
         ensures { self.new ≡ (ends self.old).after }
     {
@@ -410,6 +421,7 @@ impl<T: TextStore> Session<T> {
         };
     }
 
+    /// Applies a notification that has been read. Returns the message to send, or None.
     fn apply_notification(
         &mut self,
         note: ClientNotification,
@@ -443,6 +455,7 @@ impl<T: TextStore> Session<T> {
         }
     }
 
+    /// Opens a document, and returns the publication of its diagnostics.
     fn open(&mut self, uri: &str, version: i64, text: String) -> Result<Option<Vec<u8>>, AllocError>
         ensures { IfOk result (λ sent. Reacts
             (apply_notification self.old (opens uri.now version (chars (string_bytes text)))) sent
@@ -452,6 +465,7 @@ impl<T: TextStore> Session<T> {
         self.publish(uri)
     }
 
+    /// Changes a document, and returns the publication of its diagnostics, or None if there is none.
     fn change(
         &mut self,
         uri: String,
@@ -465,6 +479,7 @@ impl<T: TextStore> Session<T> {
         self.publish(uri.as_str())
     }
 
+    /// Closes a document, and returns the publication that clears its diagnostics, or None if it wasn't open.
     fn close(&mut self, uri: &str) -> Result<Option<Vec<u8>>, AllocError>
         ensures { IfOk result
             (λ sent. Reacts (apply_notification self.old (closes uri.now)) sent self.new) }

@@ -25,17 +25,16 @@ pub enum Asked {
     Free(usize, &'static str),
     /// The bindings of the occurrences after the declaration with this ordinal is renamed.
     Bound(usize, &'static str),
-    /// The facts about the name at a byte offset.
+    /// The declaration or field that the name at a byte offset refers to, its uses, and its hover text.
     NameAt(usize),
     /// The hover text of each name, followed by a bar.
     Shown,
-    /// The output of a run on an input, and its end, with bounds on open calls and on iterations of
+    /// The output and the end of a run on an input. The run has a bound on open calls, and a bound on the iterations of
     /// a loop.
     Run(&'static [i32], u32, u32),
-    /// The nodes that the statements are lowered to.
+    /// The names of the nodes to which the statements are lowered.
     Code,
-    /// The text after a renaming at a place, or the refusal. The next questions are about the text
-    /// after other edits.
+    /// The text after a renaming at a line and a character, or the refusal.
     Rename(u64, u64, &'static str),
     InlineHere(u64, u64),
     InlineAll(u64, u64),
@@ -57,7 +56,7 @@ pub(crate) use rows;
 #[derive(Clone, Copy, PartialEq, Eq)]
 pub enum Walk {
     Asking,
-    /// Answers are checked although an allocation may fail; then there need be none.
+    /// Answers are checked, but a row may have none if an allocation fails.
     Refused,
     /// Each row is a renaming, which is made through the analysis.
     RenamingInAnalysis,
@@ -91,6 +90,7 @@ impl Question for Asked {
     }
 }
 
+/// Appends the answer to a question about a well-typed module.
 fn push_answer(
     alloc: Global,
     out: &mut String,
@@ -117,6 +117,7 @@ fn answer_for_row(alloc: Global, row: &Row, walk: Walk) -> Result<String, AllocE
     answer_or_faults(alloc, &analysis, &row.1, walk)
 }
 
+/// Returns the answer to a question, or the faults of a text that isn't a well-typed module.
 fn answer_or_faults(
     alloc: Global,
     analysis: &Analysis,
@@ -132,6 +133,7 @@ fn answer_or_faults(
     }
 }
 
+/// Returns true if a row has its expected answer, or an allocation failed and may fail.
 fn is_said(alloc: Global, row: &Row, walk: Walk) -> bool {
     match answer_for_row(alloc, row, walk) {
         Ok(found) => found.as_str() == row.2,
@@ -154,6 +156,7 @@ pub fn first_wrong(
     ("", "")
 }
 
+/// Returns the position with this line and character.
 pub fn at(line: u64, character: u64) -> Position {
     Position { line, character }
 }
@@ -173,6 +176,7 @@ fn reported_faults(alloc: Global, faults: &[Diagnosis]) -> Result<String, AllocE
     Ok(out)
 }
 
+/// Appends a fault's code and range in bytes, and for a syntax fault what is expected.
 fn push_fault(out: &mut String, fault: &Diagnosis) -> Result<(), AllocError> {
     let (code, start, end) = (fault.code, fault.span.start, fault.span.end);
     let expected = if code == "Syntax" {
@@ -188,7 +192,7 @@ pub fn push_number(out: &mut String, before: &str, number: usize) -> Result<(), 
     write!(out, "{before}{number}")
 }
 
-/// Appends a text, and the start and end of a span in bytes.
+/// Appends a text, and then the start and end of a span in bytes.
 pub fn push_span(out: &mut String, before: &str, span: Span) -> Result<(), AllocError> {
     let (start, end) = (span.start, span.end);
     write!(out, "{before}{start}-{end}")

@@ -9,8 +9,8 @@ use ob0_types::WellTyped;
 use std::alloc::{AllocError, Global};
 use std::process::Abort;
 
-/// Appends the names of the nodes of a module's body: for each statement, the nodes that are evaluated in it, and the
-/// statements in it.
+/// Appends the names of the nodes of a module's body: for each statement, its own node, the nodes that are evaluated in
+/// it, and the statements in it.
 pub fn push_code(
     alloc: Global,
     out: &mut String,

@@ -43,11 +43,13 @@ fn push_shape(out: &mut String, shape: Shape<'_>) -> Result<(), AllocError> {
     Ok(())
 }
 
+/// Appends an array type's ordinal and length.
 fn push_array(out: &mut String, array: &ArrayShape) -> Result<(), AllocError> {
     let (ordinal, length) = (array.ordinal, array.length);
     write!(out, "ARRAY {ordinal} {length} OF ")
 }
 
+/// Appends a record type's ordinal and its number of fields.
 fn push_record(out: &mut String, record: &RecordShape) -> Result<(), AllocError> {
     let (ordinal, fields) = (record.ordinal, record.fields.as_slice().len());
     write!(out, "RECORD {ordinal} with {fields}")
@@ -80,6 +82,7 @@ pub fn push_bound(
     push_ordinals(out, bound.as_slice())
 }
 
+/// Appends the ordinals, or `none` for an unbound occurrence.
 fn push_ordinals(out: &mut String, ordinals: &[Option<usize>]) -> Result<(), AllocError> {
     for ordinal in ordinals {
         match ordinal {

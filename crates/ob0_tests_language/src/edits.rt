@@ -29,7 +29,7 @@ pub fn push_edited(
     out.push_str(apply_or_refuse(alloc, &store, edits)?.as_str())
 }
 
-/// Returns the edits that answer a question. If the question isn't about edits, the list is empty.
+/// Returns the edits that a question asks for, or the refusal. If the question isn't about edits, the list is empty.
 fn edits_of<T: TextStore>(
     alloc: Global,
     store: &T,
@@ -63,8 +63,7 @@ fn apply_or_refuse(
     }
 }
 
-/// Returns an analysed text after a renaming, or the refusal. If the text has faults, it returns
-/// these.
+/// Returns an analysed text after a renaming, or the refusal. If the text has faults, returns the faults.
 pub fn rename_or_faults(
     alloc: Global,
     analysis: &Analysis,
@@ -167,7 +166,8 @@ const COMMENTED: &str = "MODULE M; CONST c (* five *) = 5; (* on *) BEGIN Write(
 const SEVERAL: &str =
     "MODULE M; CONST a = 9; c = -5; d = c; BEGIN Write(a - c); Write(c DIV 3) END M.";
 
-/// If the constant is inlined, its value is written in parentheses, which nest one level too deep.
+/// A module that is nested as deep as it may be. If its constant is inlined, the value is written in parentheses, which
+/// nest one level deeper.
 const DEEP: &str = "MODULE M; CONST c = -1; VAR x: INTEGER; BEGIN x := \
     ((((((((((((((((((((((((((((((((((((((((((((((((((\
     ((((((((((((((((((((((((((((((((((((((((((((((((((c\
@@ -215,8 +215,8 @@ fn constants_are_inlined(rt: HostRuntime) {
 
 const TWO: Indent = Indent::Spaces(2);
 
-/// Texts, their indentation, and the formatted texts, which formatting doesn't change: `TEXT,
-/// INDENT => FORMATTED;`.
+/// Texts with their indentation and the formatted text, each as two rows: `TEXT, INDENT => FORMATTED;`. The second row
+/// states that formatting the formatted text changes nothing.
 macro_rules! layouts {
     ($($text:expr, $indent:expr => $wanted:expr;)*) => {
         &[$(($text, LayOut($indent), $wanted), ($wanted, LayOut($indent), $wanted)),*]

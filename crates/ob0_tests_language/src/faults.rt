@@ -109,7 +109,7 @@ static CHANGES: &[(&str, u64, u64, &str)] = changes![
     // A name that is replaced by another one, and by one that is already declared.
     TWO_VARIABLES, 17, 18, "z";
     TWO_VARIABLES, 17, 18, "x";
-    // One more statement in a procedure before another one, and half a statement.
+    // One more statement in a procedure that another procedure follows, and half a statement in the second procedure.
     "MODULE M; VAR x: INTEGER; PROCEDURE P; BEGIN x := 1 END P; PROCEDURE Q; BEGIN P; y := 1 END Q; BEGIN Q END M.",
         51, 51, "; x := TRUE";
     "MODULE M; VAR x: INTEGER; PROCEDURE P; BEGIN x := z END P; PROCEDURE Q; BEGIN P; y := 1 END Q; BEGIN Q END M.", 86, 88, "";
@@ -148,19 +148,20 @@ fn faults_after(alloc: Global, old: &str, new: &str) -> Result<String, AllocErro
     faults_of(alloc, &analysis)
 }
 
+/// Returns the faults of a text, from an analysis from scratch.
 fn faults_from_nothing(alloc: Global, text: &str) -> Result<String, AllocError> {
     let analysis = Analysis::of(alloc, text)?;
     faults_of(alloc, &analysis)
 }
 
-/// Returns true if a changed text has the faults that an analysis from scratch finds.
+/// Returns true if the text `new`, analysed after the text `old`, has the faults that an analysis from scratch finds.
 fn is_as_new(alloc: Global, old: &str, new: &str) -> Result<bool, AllocError> {
     let found = faults_after(alloc, old, new)?;
     let wanted = faults_from_nothing(alloc, new)?;
     Ok(found.as_str() == wanted.as_str())
 }
 
-/// Returns true if a text that is changed, and changed back, has the faults that an analysis from
+/// Returns true if a text that is changed, and then changed back, has each time the faults that an analysis from
 /// scratch finds.
 fn are_as_new(alloc: Global, row: &(&str, u64, u64, &str)) -> Result<bool, AllocError> {
     let (text, start, end, new) = *row;
@@ -170,8 +171,8 @@ fn are_as_new(alloc: Global, row: &(&str, u64, u64, &str)) -> Result<bool, Alloc
     Ok(is_as_new(alloc, text, store.as_str())? && is_as_new(alloc, store.as_str(), text)?)
 }
 
-/// Returns the number of the first change after which a text has other faults. None if there is
-/// none.
+/// Returns the number of the first change after which a text has other faults than an analysis from scratch finds.
+/// Returns None if there is none.
 fn first_unlike_new(alloc: Global, changes: &[(&str, u64, u64, &str)]) -> Option<usize> {
     for i in 0..changes.len() {
         if are_as_new(alloc, &changes[i]) != Ok(true) {

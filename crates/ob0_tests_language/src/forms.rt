@@ -23,8 +23,8 @@ const ONE_FACTOR: &str =
 const OPERATIONS: &str =
     "MODULE M; VAR x: INTEGER; BEGIN x := -x; x := +1; x := (x) * 2; x := a[i].b + 1; x := ~b & c; x := x = 1; x := (x) # y; x := a.b < 3; x := -(x) END M.";
 
-/// Returns true if a statement assigns a value in the small form (one factor), and false if in
-/// another form. None if the statement isn't an assignment.
+/// Returns true if a statement assigns a value in the small form, a single factor, and false if the value has another
+/// form. Returns None if the statement isn't an assignment.
 fn assigns_factor(s: &Statement) -> Option<bool> {
     match s {
         Statement::Assign(a) => match &a.value {
@@ -35,8 +35,8 @@ fn assigns_factor(s: &Statement) -> Option<bool> {
     }
 }
 
-/// Returns true if the statements are this many assignments, all with a value in the small form, or
-/// all with a value in another form.
+/// Returns true if the statements are this many assignments, and all values have the form that `factor` says. If it is
+/// true, that is the small form, otherwise another form.
 fn are_assignments(statements: &[Statement], count: usize, factor: bool) -> bool {
     for s in statements {
         if assigns_factor(s) != Some(factor) {
@@ -46,6 +46,8 @@ fn are_assignments(statements: &[Statement], count: usize, factor: bool) -> bool
     statements.len() == count
 }
 
+/// Returns true if the module's body consists of this many assignments, whose values all have the small form or all
+/// another form, as `factor` says.
 fn has_assignments(module: &Module<'_>, count: usize, factor: bool) -> bool {
     match &module.block().body {
         Some(body) => are_assignments(body.as_slice(), count, factor),
@@ -53,6 +55,8 @@ fn has_assignments(module: &Module<'_>, count: usize, factor: bool) -> bool {
     }
 }
 
+/// Returns true if the tokens are a module whose body consists of this many assignments. Their values all have the
+/// small form or all another form, as `factor` says.
 fn are_parsed(alloc: Global, tokens: &Tokens, count: usize, factor: bool) -> bool {
     match parse(alloc, tokens) {
         Ok(module) => has_assignments(&module, count, factor),
@@ -60,8 +64,8 @@ fn are_parsed(alloc: Global, tokens: &Tokens, count: usize, factor: bool) -> boo
     }
 }
 
-/// Returns true if the body of a text has this many assignments. All must have a value in the small
-/// form, or all in another form.
+/// Returns true if the text is a module whose body consists of this many assignments. Their values all have the small
+/// form or all another form, as `factor` says.
 fn all_assign(alloc: Global, text: &str, count: usize, factor: bool) -> bool {
     match scan(alloc, text) {
         Ok(tokens) => are_parsed(alloc, &tokens, count, factor),

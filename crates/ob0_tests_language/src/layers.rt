@@ -14,7 +14,7 @@ use std::process::Abort;
 const TEXT: &str =
     "MODULE M; CONST c = 3; VAR x: INTEGER; BEGIN x := c; IF x = c THEN Write(x) END END M.";
 
-/// The ordinals of the declarations of INTEGER, x, c, x, c, Write and x.
+/// The ordinals of the declarations to which the occurrences of the text are bound: INTEGER, x, c, x, c, Write and x.
 static BOUND: &[usize] = &[0, 8, 7, 8, 7, 5, 8];
 
 /// Returns true if the names of the module are bound to their declarations.
@@ -38,6 +38,7 @@ fn has_types(typed: &WellTyped<'_>) -> bool {
         && typed.checked().faults().is_empty()
 }
 
+/// Returns true if the module has no faults and the expected types.
 fn is_typed(checked: &Checked<'_>) -> bool {
     if !checked.faults().is_empty() || !checked.resolved().faults().is_empty() {
         return false;
@@ -57,6 +58,7 @@ fn is_well_typed(alloc: Global, names: &Resolved<'_>) -> bool {
     }
 }
 
+/// Returns true if the names are bound as expected and the module is well-typed.
 fn is_resolved(alloc: Global, module: &Module<'_>) -> bool {
     match resolve(alloc, module) {
         Ok(names) => is_bound(&names) && is_well_typed(alloc, &names),
@@ -72,6 +74,7 @@ fn is_shaped(alloc: Global, module: &Module<'_>, nesting: u32, count: usize) -> 
     }
 }
 
+/// Returns true if the tokens are a module with the expected shape, names and types.
 fn is_parsed(alloc: Global, tokens: &Tokens) -> bool {
     match parse(alloc, tokens) {
         Ok(module) => is_shaped(alloc, &module, 1, 11) && is_resolved(alloc, &module),
@@ -80,6 +83,7 @@ fn is_parsed(alloc: Global, tokens: &Tokens) -> bool {
     }
 }
 
+/// Returns true if the text passes through all layers with the expected results.
 fn goes_through(alloc: Global) -> bool {
     match scan(alloc, TEXT) {
         Ok(tokens) => is_parsed(alloc, &tokens),

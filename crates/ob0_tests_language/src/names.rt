@@ -8,8 +8,8 @@ use ob0_types::WellTyped;
 use std::alloc::{AllocError, Global};
 use std::process::Abort;
 
-/// Appends the meaning of the name at a byte offset, the places of its declaration and of its uses,
-/// and its hover text. Appends nothing if there is no name at the offset.
+/// Appends the thing that the name at a byte offset refers to, the places of its declaration and of its uses, and its
+/// hover text. Appends nothing if there is no name at the offset.
 pub fn push_name(
     alloc: Global,
     out: &mut String,
@@ -27,6 +27,7 @@ pub fn push_name(
     push_shown(alloc, out, module, offset, span)
 }
 
+/// Appends the thing that a name refers to: an ordinal, `predeclared`, or a field's record and index.
 fn push_of(out: &mut String, of: Of) -> Result<(), AllocError> {
     match of {
         Of::Declared(ordinal) => push_number(out, "", ordinal),
@@ -46,6 +47,7 @@ fn push_named(
     push_spans(out, named.as_slice())
 }
 
+/// Appends these spans.
 fn push_spans(out: &mut String, spans: &[Span]) -> Result<(), AllocError> {
     out.push_str(", at")?;
     for span in spans {
@@ -54,7 +56,7 @@ fn push_spans(out: &mut String, spans: &[Span]) -> Result<(), AllocError> {
     Ok(())
 }
 
-/// Appends the hover text and its range, which must be the name itself.
+/// Appends the hover text at a byte offset and its range, which must be the range `name`.
 fn push_shown(
     alloc: Global,
     out: &mut String,
@@ -68,6 +70,7 @@ fn push_shown(
     }
 }
 
+/// Appends a hover text with its range, and a remark if this isn't the range `name`.
 fn push_hover(out: &mut String, shown: &Hover, name: Span) -> Result<(), AllocError> {
     if shown.span != name {
         out.push_str(", not at the name")?;
@@ -116,7 +119,7 @@ pub fn push_all_shown(
     Ok(())
 }
 
-/// Appends the hover text of the name at a place, and returns whether there is one.
+/// Appends the hover text of the name at a span, and returns true if there is one.
 fn push_if_shown(
     alloc: Global,
     out: &mut String,

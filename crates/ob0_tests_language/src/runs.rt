@@ -7,7 +7,7 @@ use ob0_types::WellTyped;
 use std::alloc::{AllocError, Global};
 use std::process::Abort;
 
-/// Appends the output of a run, with `/` for a line break, and how the run ends.
+/// Appends the output of a run, with `/` for a line break, and then how the run ends.
 pub fn push_run(
     alloc: Global,
     out: &mut String,

@@ -8,7 +8,8 @@ pub trait Case {
     fn holds(&self, alloc: Global) -> Result<bool, AllocError>;
 }
 
-/// Returns the number of the first row that doesn't hold. None if all rows hold.
+/// Returns the number of the first row whose outcome isn't the expected one, or in which an allocation fails. Returns
+/// None if there is none.
 pub fn first_wrong<C: Case>(alloc: Global, rows: &[C]) -> Option<usize> {
     for i in 0..rows.len() {
         if rows[i].holds(alloc) != Ok(true) {

@@ -9,7 +9,7 @@ use ob0_text::{Change, Documents, Held, Lines, ReplacedBytes, TextStore, Unit, W
 use std::alloc::{AllocError, Global};
 use std::process::Abort;
 
-/// The start and the end of a change, and its new text.
+/// A change: its start and its end, each as line and character, and its new text.
 type ChangeRow = ((u64, u64), (u64, u64), &'static str);
 
 /// An action on a document.
@@ -64,6 +64,7 @@ static ROWS: &[Row] = rows![
     ]);
 ];
 
+/// Returns the change that a row describes.
 fn change_of(alloc: Global, row: &ChangeRow) -> Result<Change, AllocError> {
     let (start, end, text) = *row;
     let text = String::from_str(alloc, text)?;
@@ -71,6 +72,7 @@ fn change_of(alloc: Global, row: &ChangeRow) -> Result<Change, AllocError> {
     Ok(Change { range, text })
 }
 
+/// Returns the changes that these rows describe.
 fn changes_of(alloc: Global, rows: &[ChangeRow]) -> Result<Vec<Change>, AllocError> {
     let mut changes = Vec::new(alloc);
     for row in rows {
@@ -91,6 +93,7 @@ fn is_known<T: TextStore>(documents: &Documents<T>, uri: &str, wanted: Known) ->
     }
 }
 
+/// Returns true if the replaced bytes are the expected ones.
 fn are_bytes(found: Option<ReplacedBytes>, wanted: Option<(usize, usize, usize)>) -> bool {
     match (found, wanted) {
         (Some(bytes), Some(wanted)) => (bytes.from, bytes.removed, bytes.added) == wanted,
@@ -120,6 +123,8 @@ fn does<T: TextStore>(
     Ok(true)
 }
 
+/// Performs the actions one after another. Returns true if each has its expected result, and the document then has the
+/// expected state.
 fn do_all<T: TextStore>(
     alloc: Global,
     documents: &mut Documents<T>,
@@ -154,8 +159,8 @@ fn a_document_is_held_until_it_is_closed_or_lost(rt: HostRuntime) {
     assert!(rt; wrong.is_none(), "row {wrong:?}");
 }
 
-/// Opens a document, and tries again if an allocation failed. Returns true if the failure left it
-/// closed and it is open now.
+/// Opens a document, and tries again if an allocation fails. Returns true if a failure left it closed and it is open in
+/// the end.
 fn opens(documents: &mut Documents<Lines>, uri: &str) -> bool {
     if documents.did_open(uri, 1, OPENED).is_err() {
         if documents.get(uri).is_some() || documents.did_open(uri, 1, OPENED).is_err() {
@@ -165,8 +170,7 @@ fn opens(documents: &mut Documents<Lines>, uri: &str) -> bool {
     is_known(documents, uri, InStep(1, OPENED))
 }
 
-/// Changes a document. Returns true if it is then in step if the call succeeded, and out of step
-/// otherwise.
+/// Changes a document. Returns true if the document is in step after a success, and out of step after a failure.
 fn changes(documents: &mut Documents<Lines>, uri: &str, note: &[Change]) -> bool {
     match documents.did_change(uri, 2, note) {
         Ok(_bytes) => is_known(documents, uri, InStep(2, CHANGED_BY_THREE)),

@@ -48,6 +48,7 @@ struct Stores {
     whole: Whole,
 }
 
+/// Returns the two stores of a text.
 fn stores_of(alloc: Global, text: &str, unit: Unit) -> Result<Stores, AllocError> {
     let lines = Lines::from_str_in(alloc, text, unit)?;
     let whole = Whole::from_str_in(alloc, text, unit)?;
@@ -55,8 +56,8 @@ fn stores_of(alloc: Global, text: &str, unit: Unit) -> Result<Stores, AllocError
 }
 
 impl Stores {
-    /// Returns true if both stores have the same text, and the same offsets up to a line and a
-    /// character.
+    /// Returns true if both stores have the same text, and the same offset for each position whose line and character
+    /// are below these numbers.
     fn are_alike(&self, lines: u64, characters: u64) -> bool {
         for line in 0..lines {
             for character in 0..characters {
@@ -74,6 +75,7 @@ impl Stores {
         self.lines.as_str() == self.whole.as_str()
     }
 
+    /// Replaces a range in both stores.
     fn replace(&mut self, range: Range, new: &str) -> Result<(), AllocError> {
         self.lines.replace(range, new)?;
         self.whole.replace(range, new)
@@ -127,8 +129,8 @@ fn agree(
     Ok(is_as_new(alloc, &stores.lines, unit)? && stores.are_alike(10, 8))
 }
 
-/// Returns true if the stores agree after a change over several lines, in UTF-16 units, and after a
-/// change within a line, in bytes.
+/// Returns true if the stores agree after two changes: one over several lines, in UTF-16 units, and one within a line,
+/// in bytes.
 fn agree_from(
     alloc: Global,
     text: &str,
@@ -141,8 +143,8 @@ fn agree_from(
     Ok(agree(alloc, text, Unit::Utf16, wide, new)? && agree(alloc, text, Unit::Utf8, narrow, new)?)
 }
 
-/// Returns true if the stores agree after each of some changes. Each begins in one of the first
-/// lines, and ends there or in one of the next two.
+/// Returns true if the stores agree after each of several changes. Each begins in one of the first lines, and ends
+/// there or in one of the next two.
 fn agree_after_changes(alloc: Global, text: &str, new: &str) -> Result<bool, AllocError> {
     for line in 0..4 {
         for further in 0..3 {
@@ -156,6 +158,7 @@ fn agree_after_changes(alloc: Global, text: &str, new: &str) -> Result<bool, All
 
 static PUT: &[&str] = &["", "\n", "\r", "\r\n", "é", "\n\r", "a\rb"];
 
+/// Returns true if the stores agree after changes with each of the new texts.
 fn agree_after_each(alloc: Global, text: &str) -> Result<bool, AllocError> {
     for new in PUT {
         if !agree_after_changes(alloc, text, new)? {
@@ -172,8 +175,8 @@ static COLUMNS: &[&[u64]] = &[
     &[10, 120, 60, 64, 128, 1, 90, 89],
 ];
 
-/// Returns true if the stores of a text agree far to the right in its lines, also after these are
-/// changed at all columns.
+/// Returns true if the stores of a text agree far to the right in its lines. They must also agree after the lines are
+/// changed, at all columns.
 fn are_alike_far_in(alloc: Global, text: &str, unit: Unit) -> Result<bool, AllocError> {
     if !stores_of(alloc, text, unit)?.are_alike(4, 160) {
         return Ok(false);

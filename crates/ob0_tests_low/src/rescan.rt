@@ -17,12 +17,12 @@ use std::process::Abort;
 /// The outcome of scanning a changed text again, compared with a scan from scratch.
 #[derive(Clone, Copy, PartialEq, Eq)]
 enum Outcome {
-    /// Both scans give the same. The number counts the tokens and comments that are read again.
-    /// True means that all tokens keep their kinds.
+    /// Both scans give the same tokens. The number counts the tokens and comments that are read again. The Bool says
+    /// whether the scan reports that all tokens keep their kinds.
     Read(usize, bool),
     /// Both scans refuse the text for the same faults.
     Refused,
-    /// The text before the change has faults.
+    /// The text before the change can't be scanned.
     Unscanned,
     Different,
 }
@@ -37,6 +37,7 @@ enum Row {
     Long(Parts, Outcome),
 }
 
+/// Returns the three texts joined.
 fn join_texts(
     alloc: Global,
     front: &str,
@@ -51,7 +52,7 @@ fn join_texts(
     Ok(text)
 }
 
-/// Returns true if both have the same text, tokens and comments.
+/// Returns true if both scans have the same text, tokens and comments.
 fn are_same(a: &Tokens, b: &Tokens) -> bool {
     a.text() == b.text() && a.tokens() == b.tokens() && a.comments() == b.comments()
 }
@@ -73,7 +74,7 @@ fn outcome_in_place(
     }
 }
 
-/// Returns true if a scan that keeps the old tokens has this outcome as well.
+/// Returns true if the scan that keeps the old tokens, compared with a scan from scratch, also has this outcome.
 fn has_outcome(
     found: &Result<Rescan, ScanRefusal>,
     scanned: &Result<Tokens, ScanRefusal>,
@@ -99,8 +100,8 @@ struct ChangedRange {
     added: usize,
 }
 
-/// Scans a changed text again, once keeping the old tokens and once in their place. Returns the
-/// common outcome.
+/// Scans a changed text again, once with the old tokens kept and once in their place. Returns the common outcome, or
+/// `Different`.
 fn rescan_both(
     alloc: Global,
     old: Tokens,
@@ -116,6 +117,7 @@ fn rescan_both(
     compare(&beside, &placed, &scan(alloc, text), old_text)
 }
 
+/// Returns the common outcome of both scans of a changed text, or `Different`.
 fn compare(
     beside: &Result<Rescan, ScanRefusal>,
     placed: &Result<RescanInPlace, NotRescanned>,
@@ -152,6 +154,7 @@ fn change(
     }
 }
 
+/// Appends 5,000 statements.
 fn push_statements(text: &mut String) -> Result<(), AllocError> {
     for _i in 0..5000 {
         text.push_str("x := 1;\n  ")?;
@@ -167,6 +170,7 @@ fn change_between(alloc: Global, statements: &str, parts: &Parts) -> Result<Outc
     change(alloc, front.as_str(), middle, other, following.as_str())
 }
 
+/// Returns the outcome of a change with 5,000 statements before it and as many after it.
 fn change_long(alloc: Global, parts: &Parts) -> Result<Outcome, AllocError> {
     let mut statements = String::new(alloc);
     push_statements(&mut statements)?;
@@ -239,6 +243,7 @@ static PIECES: &[&str] = &[
     "(* a *)", "(**)", "1a", "$", "  ", "7", "é", "a1", ".",
 ];
 
+/// Appends fewer than `most` random pieces.
 fn push_pieces(text: &mut String, numbers: &mut Numbers, most: usize) -> Result<(), AllocError> {
     for _i in 0..numbers.below(most) {
         if let Some(piece) = PIECES.get(numbers.below(25)) {
@@ -248,13 +253,14 @@ fn push_pieces(text: &mut String, numbers: &mut Numbers, most: usize) -> Result<
     Ok(())
 }
 
+/// Returns a random text of fewer than `most` pieces.
 fn random_text(alloc: Global, numbers: &mut Numbers, most: usize) -> Result<String, AllocError> {
     let mut text = String::new(alloc);
     push_pieces(&mut text, numbers, most)?;
     Ok(text)
 }
 
-/// Returns random texts of at most this many pieces each.
+/// Returns random texts. Each has fewer pieces than the number at its index.
 fn random_texts(
     alloc: Global,
     numbers: &mut Numbers,
@@ -267,6 +273,7 @@ fn random_texts(
     Ok(texts)
 }
 
+/// Returns the outcome of a random change of a random text.
 fn random_change(alloc: Global, numbers: &mut Numbers) -> Result<Outcome, AllocError> {
     let texts = random_texts(alloc, numbers, &[6, 3, 3, 6])?;
     match texts.as_slice() {
@@ -281,8 +288,8 @@ fn random_change(alloc: Global, numbers: &mut Numbers) -> Result<Outcome, AllocE
     }
 }
 
-/// Returns true if random changes are scanned as if from scratch, and if enough of them are
-/// accepted and enough refused.
+/// Returns true if random changes are scanned as if from scratch, and if there are enough accepted and enough refused
+/// texts among them.
 fn are_random_changes_read(alloc: Global) -> bool {
     let mut numbers = Numbers { seed: 1 };
     let mut read: usize = 0;

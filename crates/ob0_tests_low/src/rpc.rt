@@ -14,8 +14,8 @@ use serde_json::{Value, json};
 use std::alloc::{AllocError, Global};
 use std::process::Abort;
 
-/// A content, or a method with its params, with the expected meaning as a word; or a message, with
-/// its expected content.
+/// An input and its kind: a content, or a method with its params, with the expected meaning in words; or a message that
+/// is sent, with the expected content.
 #[derive(Clone, Copy)]
 enum Asked {
     Content(&'static str),
@@ -24,7 +24,7 @@ enum Asked {
     Sent(Message),
 }
 
-/// A message that is sent: usually an answer to a request with this value.
+/// A message that is sent. Those without `Note` or `Refusal` in their names are answers to a request with this value.
 #[derive(Clone, Copy)]
 enum Message {
     Nothing,
@@ -146,6 +146,7 @@ fn kind_of(alloc: Global, content: &str) -> &'static str {
     }
 }
 
+/// Returns the kind of a message, in words.
 fn word_of_message(message: &Incoming) -> &'static str {
     match message {
         Incoming::Request(Id::Unsigned(u64::MAX), _method, Value::Null) => "greatest request",
@@ -155,6 +156,7 @@ fn word_of_message(message: &Incoming) -> &'static str {
     }
 }
 
+/// Returns a client's capabilities, in words.
 fn said_of(client: Client) -> &'static str {
     let Client {
         counts_utf8: utf8,
@@ -169,6 +171,7 @@ fn said_of(client: Client) -> &'static str {
     }
 }
 
+/// Returns a request for formatting with this indentation, in words.
 fn said_by(indent: Indent) -> &'static str {
     match indent {
         Indent::Tab => "layout by tabs",
@@ -179,6 +182,7 @@ fn said_by(indent: Indent) -> &'static str {
     }
 }
 
+/// Returns a request for code actions of these kinds, in words.
 fn said_of_kinds(only: &Option<Vec<String>>) -> &'static str {
     match only {
         None => "actions",
@@ -206,6 +210,7 @@ fn word_of(call: &Call) -> &'static str {
     }
 }
 
+/// Returns the meaning of a request with this method and these params, or its fault, in words.
 fn word_requested(alloc: Global, method: &str, params: &Value) -> &'static str {
     match request(alloc, method, params) {
         Ok(call) => word_of(&call),
@@ -226,6 +231,7 @@ fn word_of_note(note: &Note) -> &'static str {
     }
 }
 
+/// Returns the meaning of a notification with this method and these params, or its fault, in words.
 fn word_noticed(alloc: Global, method: &str, params: Value) -> &'static str {
     match notice(alloc, method, params) {
         Ok(note) => word_of_note(&note),
@@ -233,6 +239,7 @@ fn word_noticed(alloc: Global, method: &str, params: Value) -> &'static str {
     }
 }
 
+/// Returns true if the notification with this method and these params has the expected meaning.
 fn is_noticed(alloc: Global, method: &str, params: &str, wanted: &str) -> bool {
     match Value::from_str(alloc, params) {
         Ok(params) => word_noticed(alloc, method, params) == wanted,
@@ -240,6 +247,7 @@ fn is_noticed(alloc: Global, method: &str, params: &str, wanted: &str) -> bool {
     }
 }
 
+/// Returns true if the request with this method and these params has the expected meaning.
 fn is_requested(alloc: Global, method: &str, params: &str, wanted: &str) -> bool {
     match Value::from_str(alloc, params) {
         Ok(params) => word_requested(alloc, method, &params) == wanted,
@@ -247,15 +255,18 @@ fn is_requested(alloc: Global, method: &str, params: &str, wanted: &str) -> bool
     }
 }
 
+/// Returns a value with members of each kind except a fraction.
 fn value_of_each_kind(alloc: Global) -> Result<Value, AllocError> {
     json!(in alloc; {"b": [true, null, -1], "a": {"c": "\"\n"}})
 }
 
+/// Returns the content of an answer that is a range.
 fn range_written(alloc: Global, start: (u64, u64), end: (u64, u64)) -> Result<Vec<u8>, AllocError> {
     let (start, end) = (at(start.0, start.1), at(end.0, end.1));
     result_of(alloc, &Id::Signed(1), &Range { start, end })
 }
 
+/// Returns the content of an answer that is an object with one member.
 fn member_written(alloc: Global) -> Result<Vec<u8>, AllocError> {
     let (key, value) = ("a b", Some(at(1, 2)));
     result_of(alloc, &Id::Signed(0), &OneMember { key, value })

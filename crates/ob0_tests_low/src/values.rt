@@ -38,6 +38,7 @@ static ROWS: &[Row] = rows![
     Relate(Relation::Less, Truth(true), Truth(false)) => Err(OperatorFault::Operand);
 ];
 
+/// Returns the result of an operator on its operands.
 fn reckon(reckoned: Reckoned) -> Result<Scalar, OperatorFault> {
     match reckoned {
         Multiply(operator, left, right) => multiply(operator, Number(left), Number(right)),

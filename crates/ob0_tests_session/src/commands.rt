@@ -17,7 +17,7 @@ const RUN: CommandLine<'static> = CommandLine::Run {
     turns: 0,
 };
 
-/// Renames the variable `x` to `abc`.
+/// The renaming of the variable `x` to `abc`.
 const RENAME: CommandLine<'static> = CommandLine::Rename {
     file: "m",
     position: Position {
@@ -27,7 +27,7 @@ const RENAME: CommandLine<'static> = CommandLine::Rename {
     name: "abc",
 };
 
-/// Renames at the word MODULE, which isn't a name, to `abc`.
+/// A renaming to `abc` at the word MODULE, which isn't a name.
 const RENAME_WORD: CommandLine<'static> = CommandLine::Rename {
     file: "m",
     position: Position {
@@ -79,7 +79,7 @@ static CALLS: &[(Call, u32, (u8, usize))] = &[
     ((RENAME_WORD, READS, b""), 1, (1, 0)),
 ];
 
-/// Returns the number of the first call with another outcome. None if there is none.
+/// Returns the number of the first call with another outcome than expected. Returns None if there is none.
 fn first_astray(alloc: Global, calls: &[(Call, u32, (u8, usize))]) -> Option<usize> {
     for i in 0..calls.len() {
         if outcome_of(alloc, calls[i].0, calls[i].1) != calls[i].2 {
@@ -95,7 +95,7 @@ fn commands_print_what_they_flush(rt: HostRuntime) {
     assert!(rt; number.is_none(), "call {number:?}");
 }
 
-/// Returns the command of a command line, in a word.
+/// Returns the kind of a command line, in words.
 fn word_of(line: &CommandLine<'_>) -> &'static str {
     match line {
         CommandLine::Serve => "serve",
@@ -110,6 +110,7 @@ fn word_of(line: &CommandLine<'_>) -> &'static str {
     }
 }
 
+/// Returns the kind of the command line that these words spell, or that they are refused.
 fn line_of(alloc: Global, words: &[&str]) -> &'static str {
     match command(alloc, words) {
         Ok(line) => word_of(&line),

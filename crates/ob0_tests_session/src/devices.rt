@@ -2,8 +2,7 @@
 
 use std::io::{self, Read, Write};
 
-/// A reader of these bytes, which returns at most `most` of them in each call. It fails when its
-/// calls are used up.
+/// A reader of these bytes, which returns at most `most` of them in each call. It fails when no calls are left.
 #[derive(Drop)]
 pub struct Source<'a> {
     pub bytes: &'a [u8],
@@ -22,8 +21,8 @@ impl<'a> Read for Source<'a> {
     }
 }
 
-/// The counts of a writer: the bytes that were written, the bytes of these that are passed on, the
-/// bytes that can still be written, and the flushes left.
+/// The counts of a writer: the bytes that were written, how many of them are passed on, the bytes that can still be
+/// written, and the flushes that still succeed.
 #[derive(Clone, Copy)]
 pub struct Count {
     pub written: usize,

@@ -51,8 +51,7 @@ static ENDS: &[ServeEnd] = ends![
     BAD_HEAD to 118, 40, u32::MAX; 512, 3 => Err(ServeFault::BadHead);
 ];
 
-/// The end of a conversation, with the devices that recorded a failure, and whether everything was
-/// flushed.
+/// The end of a conversation, with the failures that the devices recorded, and whether everything was flushed.
 #[derive(Clone, Copy)]
 struct Found {
     result: Result<u8, ServeFault>,
@@ -79,16 +78,16 @@ fn converse(alloc: Global, end: &ServeEnd, count: &mut Count) -> Found {
     }
 }
 
-/// Returns true if everything was flushed, and if the devices recorded a failure exactly if the
-/// result says so.
+/// Returns true if everything was flushed, and each device recorded a failure exactly if the result says that it
+/// failed.
 fn is_reported(found: Found) -> bool {
     found.read_failed == (found.result == Err(ServeFault::Read))
         && found.write_failed == (found.result == Err(ServeFault::Write))
         && found.flushed
 }
 
-/// Returns true if a conversation ends as expected if only this many flushes succeed. If a flush is
-/// missing, the result must be `Write`; otherwise all written bytes are passed on.
+/// Returns true if a conversation ends as expected when only this many flushes succeed. If a needed flush is missing,
+/// the result must be `Write`. Otherwise it must be the expected result, and all written bytes are passed on.
 fn ends_flushed(alloc: Global, end: &ServeEnd, flushes: u32) -> bool {
     let mut count = Count::new(end.capacity, flushes);
     let found = converse(alloc, end, &mut count);
@@ -98,7 +97,8 @@ fn ends_flushed(alloc: Global, end: &ServeEnd, flushes: u32) -> bool {
     found.result == end.result && is_reported(found) && count.passed_on == count.written
 }
 
-/// Returns true if a conversation needs each of its flushes.
+/// Returns true if a conversation ends with `Write` for each smaller number of flushes, and as expected for its own
+/// number.
 fn needs_each_flush(alloc: Global, end: &ServeEnd) -> bool {
     for flushes in 0..end.flushes {
         if !ends_flushed(alloc, end, flushes) {
@@ -108,7 +108,7 @@ fn needs_each_flush(alloc: Global, end: &ServeEnd) -> bool {
     ends_flushed(alloc, end, end.flushes)
 }
 
-/// Returns the number of the first conversation that doesn't end as expected. None if all do.
+/// Returns the number of the first conversation that doesn't end as expected. Returns None if all do.
 fn first_astray(alloc: Global, ends: &[ServeEnd]) -> Option<usize> {
     for i in 0..ends.len() {
         if !needs_each_flush(alloc, &ends[i]) {

@@ -1,16 +1,16 @@
 //! Defines the events of worlds as tables write them, and the reports on them.
 //!
-//! If an allocation for the events themselves fails, they are made a second time. That succeeds, since only one
+//! If an allocation for the events themselves fails, they are made a second time. That succeeds, because only one
 //! allocation of a run fails.
 
 use ob0_text::{Change, Indent, Position, Range, TextStore};
 use ob0_world::{Ask, Event, Seen, World, WorldFault};
 use std::alloc::{AllocError, Global};
 
-/// One event; it is about the document `u`, unless it is `Other`.
+/// An event of a world. It is about the document `u`, unless it is `Other`.
 #[derive(Clone, Copy)]
 pub enum Act {
-    /// The same event, about another document, `v`.
+    /// This event, but about another document, `v`.
     Other(&'static Act),
     Open(&'static str),
     /// A change notification without changes.
@@ -34,7 +34,7 @@ pub enum Act {
 pub enum Sight {
     Nothing,
     Sent,
-    /// The server took a message and sent this many messages.
+    /// The server took a message and sent this many messages in reply.
     Served(usize),
     /// The editor took a list of diagnostics of `u`. True if the list is empty.
     Published(bool),
@@ -58,7 +58,7 @@ pub struct Story {
     pub made: &'static [(i64, &'static str, bool)],
 }
 
-/// The course that some steps took.
+/// The course that some steps took, compared with the expected one.
 #[derive(Clone, Copy, PartialEq, Eq)]
 pub enum Way {
     AsTold,
@@ -68,7 +68,8 @@ pub enum Way {
     Otherwise,
 }
 
-/// Returns the course of some steps and one more step.
+/// Returns the course of several steps, given the course of all but the last (`before`) and the course of the last
+/// (`next`).
 pub fn join_ways(before: Way, next: Way) -> Way {
     match (before, next) {
         (Way::AsTold, Way::Ended) => Way::Otherwise,
@@ -78,6 +79,7 @@ pub fn join_ways(before: Way, next: Way) -> Way {
     }
 }
 
+/// Returns the position with this line and character.
 fn at(line: u64, character: u64) -> Position {
     Position { line, character }
 }
@@ -91,12 +93,13 @@ fn changes(alloc: Global, range: Range, text: &str) -> Result<Vec<Change>, Alloc
     Ok(changes)
 }
 
+/// Returns the ask for renaming at a position.
 fn rename_ask(alloc: Global, position: Position, name: &str) -> Result<Ask, AllocError> {
     let name = String::from_str(alloc, name)?;
     Ok(Ask::Rename { position, name })
 }
 
-/// Returns the ask of an act; an act that isn't an ask gives a formatting.
+/// Returns the ask that an act describes. Any act that describes no ask gives a formatting.
 fn ask_of(alloc: Global, act: Act) -> Result<Ask, AllocError> {
     match act {
         Act::Rename(line, character, name) => rename_ask(alloc, at(line, character), name),
@@ -112,7 +115,8 @@ fn ask_of(alloc: Global, act: Act) -> Result<Ask, AllocError> {
     }
 }
 
-/// Returns the event for an act about a document; an act that isn't a change, an open or a close gives an ask.
+/// Returns the event that an act describes, about the document with this uri. Any act that isn't an open, a change or a
+/// close gives an ask.
 fn event_about(alloc: Global, uri: String, act: Act) -> Result<Event, AllocError> {
     match act {
         Act::Open(text) => {
@@ -136,6 +140,7 @@ fn event_about(alloc: Global, uri: String, act: Act) -> Result<Event, AllocError
     }
 }
 
+/// Returns the event that an act describes.
 fn event_of(alloc: Global, act: Act) -> Result<Event, AllocError> {
     match act {
         Act::Serve => Ok(Event::Serve),
@@ -147,6 +152,7 @@ fn event_of(alloc: Global, act: Act) -> Result<Event, AllocError> {
     }
 }
 
+/// Returns the events that these acts describe.
 fn events_of(alloc: Global, moments: &[(Act, Sight)]) -> Result<Vec<Event>, AllocError> {
     let mut events = Vec::new(alloc);
     for moment in moments {
@@ -163,6 +169,7 @@ pub fn events_again(alloc: Global, story: &Story) -> Result<Vec<Event>, AllocErr
     }
 }
 
+/// Returns the report on an event as tables write it.
 fn sight_of(seen: &Seen) -> Sight {
     match seen {
         Seen::Nothing => Sight::Nothing,
@@ -176,7 +183,7 @@ fn sight_of(seen: &Seen) -> Sight {
     }
 }
 
-/// Makes an event in a world, and returns whether its report is the expected one or why it failed.
+/// Makes an event in a world. Returns whether its report is the expected one, or why the event failed.
 pub fn way_of_event<T: TextStore>(world: &mut World<T>, event: &Event, wanted: Sight) -> Way {
     if world.steps() > 1_000_000 {
         return Way::Otherwise;

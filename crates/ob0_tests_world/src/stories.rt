@@ -81,7 +81,7 @@ pub fn stories() -> &'static [Story] {
     STORIES
 }
 
-/// Two more tests run only the first story.
+/// The stories. The first one is also run by two other tests.
 static STORIES: &[Story] = stories![
     "another name is applied", Utf16, NAMED,
         [COUNTS => RENAMED], [1, COUNTS => true; 2, RENAMED => true];

@@ -22,7 +22,7 @@ struct Outcome(Way, u64, usize, usize);
 /// The outcome of a story that isn't as expected.
 const NOTHING: Outcome = Outcome(Way::Otherwise, 0, 0, 0);
 
-/// Returns true if the edits are the first of the expected edits.
+/// Returns true if the edits found are the first of the expected edits.
 fn are_first_edits(found: &[Applied], wanted: &[(&str, &str)]) -> bool {
     if found.len() > wanted.len() {
         return false;
@@ -36,7 +36,7 @@ fn are_first_edits(found: &[Applied], wanted: &[(&str, &str)]) -> bool {
     true
 }
 
-/// Returns true if the publications are the first of the expected publications.
+/// Returns true if the publications found are the first of the expected publications.
 fn are_first_publications(found: &[Made], wanted: &[(i64, &str, bool)]) -> bool {
     if found.len() > wanted.len() {
         return false;
@@ -53,8 +53,8 @@ fn are_first_publications(found: &[Made], wanted: &[(i64, &str, bool)]) -> bool 
     true
 }
 
-/// Returns the outcome of some events if the edits and publications are the first that are expected. Otherwise
-/// `NOTHING`.
+/// Returns the outcome of some events if their edits and publications are the first ones that are expected. Otherwise
+/// returns `NOTHING`.
 fn outcome_of(story: &Story, way: Way, steps: u64, played: &Played) -> Outcome {
     let are_edits = are_first_edits(played.applied.as_slice(), story.applied);
     if !are_edits || !are_first_publications(played.made.as_slice(), story.made) {
@@ -63,6 +63,7 @@ fn outcome_of(story: &Story, way: Way, steps: u64, played: &Played) -> Outcome {
     Outcome(way, steps, played.applied.len(), played.made.len())
 }
 
+/// Returns a world at its beginning, in which positions are counted in this unit.
 fn begin_world<T: TextStore>(alloc: Global, unit: Unit) -> Result<World<T>, WorldFault> {
     match unit {
         Unit::Utf16 => World::new(alloc),
@@ -89,6 +90,7 @@ fn step_through<T: TextStore>(alloc: Global, story: &Story, events: &[Event]) ->
     outcome_of(story, way, steps, &world.into_played())
 }
 
+/// Plays events by `play` over a store of lines, with positions in this unit.
 fn play(alloc: Global, unit: Unit, events: &[Event]) -> Result<Played, PlayFault> {
     match unit {
         Unit::Utf16 => World::<Lines>::play(alloc, events),
@@ -125,7 +127,8 @@ fn ends_as_written(alloc: Global, story: &Story, manner: Manner) -> bool {
         && made == story.made.len()
 }
 
-/// Returns true if a story runs as expected. If an allocation may fail, it need run only up to there.
+/// Returns true if a story runs as expected. If an allocation may fail, it has to run as expected only up to that
+/// failure.
 fn goes_as_written(alloc: Global, story: &Story, may_fail: bool) -> bool {
     if may_fail {
         return run_story(alloc, story, Manner::OverLines).0 != Way::Otherwise;
@@ -157,6 +160,7 @@ fn a_refused_event_ends_a_world(rt: HostRuntime) {
     assert!(rt; name.is_empty(), "{name}");
 }
 
+/// Runs the first story, and returns the outcome.
 fn run_first(alloc: Global, manner: Manner) -> Outcome {
     match stories().first() {
         Some(story) => run_story(alloc, story, manner),

@@ -16,17 +16,19 @@ use Rattle.ob0_text.specs.Texts.{before, byte_len, position_of}
 abbrev pub at : ℕ → ℕ → Position
 at line character = record { line = line; character = character }
 
--- Returns the position that p is in the whole text, if p is counted from this line and character.
+-- Returns the position `p` in the whole text, if `p` is counted from the place with this line and
+-- character.
 abbrev pub counted_from : ℕ → ℕ → Position → Position
 counted_from line character p =
     if p.line == 0 then at line (character + p.character) else at (line + p.line) p.character
 
--- Returns the position p counted from this line and character. It is the inverse of `counted_from`.
+-- Returns the position `p` counted from the place with this line and character. It is the inverse
+-- of `counted_from`.
 abbrev pub left_of : ℕ → ℕ → Position → Position
 left_of line character p =
     if p.line == line then at 0 (p.character - character) else at (p.line - line) p.character
 
--- Holds if p equals q or comes after it.
+-- Holds if the position `p` equals `q` or comes after it.
 abbrev pub IsFrom : Position → Position → Type 0
 IsFrom q p = (q.line < p.line) ⊎ ((q.line ≡ p.line) × (q.character ≤ p.character))
 

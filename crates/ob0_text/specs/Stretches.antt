@@ -21,15 +21,15 @@ pub record AreOfALine (width : ℕ → ℕ) (cs : List ℕ) (units : ℕ) : Type
   pub of_one : All EndsNoLine cs
   pub counted : sum_by width cs ≡ units
 
--- Holds if s consists of whole characters of one line that begin at the byte offset `from`. It may
--- be empty.
+-- Holds if `s` consists of whole characters of one line that begin at the byte offset `from`. It
+-- may be empty.
 pub record IsPieceOfLine (width : ℕ → ℕ) (text : List ℕ) (from : ℕ) (s : Stretch) : Type 0 where
   pub ordered : from ≤ s.end
   pub inside : s.end ≤ length text
   pub whole : IsUtf8 (take (s.end - from) (drop from text))
   pub of_a_line : AreOfALine width (chars (take (s.end - from) (drop from text))) s.units
 
--- Holds if s consists of at least one whole character, all of one line, and begins at the byte
+-- Holds if `s` consists of at least one whole character, all of one line, and begins at the byte
 -- offset `from`.
 pub record IsStretch (width : ℕ → ℕ) (text : List ℕ) (from : ℕ) (s : Stretch) : Type 0 where
   pub further : from < s.end

@@ -52,9 +52,9 @@ impl CountedPiece {
     }
 }
 
-/// Returns a counted piece of the text that begins at `start` and has at most `units` units. It has
-/// nearly that many if the line is long enough. If the piece `last` begins at `start` as well, only
-/// the difference is counted.
+/// Returns a counted piece of the text that begins at `start` and has at most `units` units. If the line is long
+/// enough, it has nearly that many. If the piece `last` begins at `start` as well, only the difference between the two
+/// pieces is counted.
 pub fn counted_to(text: &str, unit: Unit, start: usize, last: CountedPiece, units: u64) -> Stretch
     requires start { start ≤ length text.now }
     requires last { IsPieceOfLine (width_of unit) text.now last.start last.counted }

@@ -85,8 +85,8 @@ fn add_starts(
     Ok(())
 }
 
-/// Returns whether a line starts between the byte `last` and the byte `next` (None at the end of
-/// the text). No line starts between CR and LF.
+/// Returns true if a line starts between the byte `last` and the byte `next` (None at the end of the text). No line
+/// starts between CR and LF.
 #[tactic(auto, unfolding(crate::specs::Texts::ends_line, crate::specs::Texts::starts_with_lf))]
 #[inline(always)]
 fn parts_lines(last: u8, next: Option<u8>) -> bool

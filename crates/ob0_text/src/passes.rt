@@ -104,7 +104,7 @@ pub fn position_at(place: PassState) -> Position
     }
 }
 
-/// Returns whether `position` equals `from` or comes after it.
+/// Returns true if `position` equals `from` or comes after it.
 pub fn is_from(from: Position, position: Position) -> bool
     ensures { IsTrue result ↔ IsFrom from position }
 {
@@ -112,20 +112,22 @@ pub fn is_from(from: Position, position: Position) -> bool
         || (from.line == position.line && from.character <= position.character)
 }
 
+/// Returns true for LF and CR.
 fn is_line_break(c: char) -> bool
     ensures { result ≡ (c == LF || c == CR) }
 {
     c == '\n' || c == '\r'
 }
 
-/// Returns whether the character `c` before the text `rest` ends a line. A CR before an LF doesn't,
-/// because that LF does.
+/// Returns true if the character `c` before the text `rest` ends a line. A CR before an LF doesn't, because that LF
+/// does.
 fn ends_line(c: char, rest: &str) -> bool
     ensures { result ≡ ends_line c (chars rest.now) }
 {
     c == '\n' || (c == '\r' && !rest.starts_with('\n'))
 }
 
+/// Returns the number of units of a character.
 fn width(c: char, unit: Unit) -> u64
     ensures { result ≡ width_of unit c }
 {

@@ -29,7 +29,7 @@ pub(crate) fn trim_text(text: &mut String)
     }
 }
 
-/// Returns whether a quarter of a capacity exceeds the used part by more than `SPARED`.
+/// Returns true if a quarter of a capacity exceeds the used part by more than `SPARED`.
 fn is_sparse(capacity: usize, used: usize) -> bool {
     capacity / 4 > used.saturating_add(SPARED)
 }

@@ -58,8 +58,8 @@ pub(crate) fn units_of(piece: &str, unit: Unit) -> Option<u64>
     }
 }
 
-/// Returns whether one of these bytes ends a line. It counts them instead of stopping at the first,
-/// because the compiler vectorizes that.
+/// Returns true if one of these bytes ends a line. It counts them instead of stopping at the first, because the
+/// compiler vectorizes that.
 fn has_line_break(bytes: &[u8]) -> bool
     requires { length bytes.now ≤ 64 }
     ensures no { result ≡ false → All EndsNoLine bytes.now }
@@ -73,6 +73,7 @@ fn has_line_break(bytes: &[u8]) -> bool
     0 < breaks
 }
 
+/// Returns true for LF and CR.
 fn is_line_break(byte: u8) -> bool
     ensures { result ≡ (byte == LF || byte == CR) }
 {

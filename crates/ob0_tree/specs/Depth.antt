@@ -1,7 +1,7 @@
--- Defines the nesting as the code counts it: in 32 bits, with saturating addition.
+-- The nesting depth as the code counts it: in 32 bits, with saturating addition.
 -- Rule: none; for contracts: nesting as the code counts it.
 use Rattle.std.specs.Prelude.{ℕ, min}
 
--- Returns the number, or the largest number of 32 bits if it is greater.
+-- Returns the number, at most 2^32 - 1.
 abbrev pub capped : ℕ → ℕ
 capped n = min n 4294967295

@@ -18,25 +18,25 @@ Ascending low (x ∷ xs) high = (low ≤ x) × Ascending (x + 1) xs high
 abbrev pub names_only : {N : Type 0} → List (Role × N) → List N
 names_only xs = map (λ x. x.1) xs
 
--- Returns all identifiers of a tree, in text order.
+-- Returns all identifiers of a tree, in text order, without their roles.
 abbrev pub leaves : {N : Type 0} {s : Sort} → Tree N s → List N
 leaves t = names_only (identifiers role.Declaring t)
 
--- Returns the index if the token is an identifier, otherwise nothing.
+-- Returns a list of the index `i` if the token is an identifier, otherwise an empty list.
 abbrev pub identifier_at : ℕ → TokenKind → List ℕ
 identifier_at i kind.Identifier = i ∷ []
 identifier_at i k = []
 
--- Returns the indexes of the identifiers among tokens, the first of which has the index i.
+-- Returns the indexes of the identifiers among these tokens. The first token has the index `i`.
 abbrev pub identifiers_from : ℕ → List Token → List ℕ
 identifiers_from i [] = []
 identifiers_from i (t ∷ ts) = identifier_at i t.kind ++ identifiers_from (i + 1) ts
 
--- Holds if the token at the index is an identifier.
+-- Holds if there is a token with this index and it is an identifier.
 abbrev pub IsIdentifierToken : List Token → ℕ → Type 0
 IsIdentifierToken ts i = (i < length ts) × HoldsAt (λ t. t.kind ≡ kind.Identifier) ts i
 
--- Holds if the tokens at all these indexes are identifiers.
+-- Holds if there is an identifier at each of these indexes in the list of tokens.
 abbrev pub AreIdentifiers : List Token → List ℕ → Type 0
 AreIdentifiers ts [] = Unit {0}
 AreIdentifiers ts (i ∷ others) = IsIdentifierToken ts i × AreIdentifiers ts others

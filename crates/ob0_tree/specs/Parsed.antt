@@ -30,8 +30,8 @@ tree_of m = is_module m.name (block_of m.block) m.closing
 abbrev pub named_tree_of : Parsed → Tree (List ℕ) module_text
 named_tree_of m = named m.source (tree_of m)
 
--- Holds if the text is a module with this tree, and each name and number of the tree is the index
--- of its own token.
+-- Holds if the text is a module with this tree, and each identifier and integer of the tree is the
+-- index of its own token.
 pub record IsParsed (m : Parsed) : Type 0 where
   pub module_of : ModuleOf m.source (named_tree_of m)
   pub places : spell (tree_of m) ++ (EndOfText ∷ []) ≡ lexemes m.source.tokens

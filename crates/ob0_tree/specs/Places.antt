@@ -9,14 +9,15 @@ use Rattle.ob0_scan.specs.Scanned.{Scanned, spanned}
 use Rattle.ob0_tree.specs.Lexeme.{Terminal, Name, Number, Mark, EndOfText}
 use Rattle.ob0_tree.specs.Tree.{Sort, Tree, mapped}
 
--- Returns the token at the index i, with i in place of its name or its number.
+-- Returns the token at the index `i` as a tree over indexes spells it: `i` replaces its name or its
+-- number.
 abbrev pub lexeme_of : ℕ → TokenKind → Terminal ℕ
 lexeme_of i kind.Identifier = Name i
 lexeme_of i (kind.Integer value) = Number i
 lexeme_of i k = Mark k
 
--- Returns the tokens with their indexes in place of names and numbers, followed by the end of the
--- text. The first token has the index i.
+-- Returns the tokens as a tree over indexes spells them, followed by the end of the text. The first
+-- token has the index `i`.
 abbrev pub lexemes_from : ℕ → List Token → List (Terminal ℕ)
 lexemes_from i [] = EndOfText ∷ []
 lexemes_from i (t ∷ ts) = lexeme_of i t.kind ∷ lexemes_from (i + 1) ts
@@ -50,6 +51,6 @@ text_at s i = text_in s.text (slice_get s.tokens i)
 abbrev pub value_at : Scanned → ℕ → ℕ
 value_at s i = value_in (slice_get s.tokens i)
 
--- Returns the tree with each index replaced by the name or number of its token.
+-- Returns the tree with each index replaced by the spelling or the number of its token.
 abbrev pub named : {s : Sort} → Scanned → Tree ℕ s → Tree (List ℕ) s
 named s t = mapped (text_at s) (value_at s) t

@@ -57,7 +57,7 @@ pub data Sort : Type 0 where
   block : Sort
   module_text : Sort
 
--- A syntax tree of a sort, with an N for each identifier and a number for each integer.
+-- A syntax tree of a sort, with a value of `N` for each identifier and a number for each integer.
 pub data Tree (N : Type 0) : Sort → Type 0 where
   none : {i : Item} → Tree N (maybe i)
   one : {i : Item} → Tree N (item i) → Tree N (maybe i)
@@ -221,7 +221,7 @@ spell (is_module name b closing) =
     ++ (Mark (kind.Reserved reserved.End) ∷ Name closing ∷ mark (kind.Symbol symbol.Dot)))
 
 -- Returns the greatest number of constructs that are nested in each other. A construct counts if
--- its case adds 1.
+-- its case of this definition adds 1.
 abbrev pub nesting : {N : Type 0} {s : Sort} → Tree N s → ℕ
 nesting none = 0
 nesting (one t) = nesting t
@@ -278,7 +278,7 @@ nesting (begins s) = nesting s
 nesting (has_body ds b) = max (nesting ds) (nesting b)
 nesting (is_module name b closing) = nesting b
 
--- Returns the tree with each name replaced by f, and each number by g.
+-- Returns the tree with each name replaced by `f`, and each number by `g`.
 abbrev pub mapped : {N M : Type 0} {s : Sort} → (N → M) → (ℕ → ℕ) → Tree N s → Tree M s
 mapped f g none = none
 mapped f g (one t) = one (mapped f g t)

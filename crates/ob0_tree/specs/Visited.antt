@@ -11,7 +11,8 @@ abbrev pub visited_all : {A : Type 0} → (Role → ℕ → A → A) → List (R
 visited_all step [] known = known
 visited_all step (x ∷ xs) known = visited_all step xs (step x.0 x.1 known)
 
--- Returns the state after the identifiers of a part of a module. The names of a list of names by
--- itself are declared.
+-- Returns the state after the identifiers of a part of a module, from the state `known`. `step`
+-- gives the state after one identifier. If the part is itself a list of names, they count as
+-- declared.
 abbrev pub visited : {A : Type 0} {s : Sort} → (Role → ℕ → A → A) → Tree ℕ s → A → A
 visited step t known = visited_all step (identifiers role.Declaring t) known

@@ -35,6 +35,7 @@ impl Visitor for Seen {
 }
 
 impl Seen {
+    /// Returns the listed identifiers, in text order.
     fn into_list(self) -> Vec<(Role, usize)>
         ensures { result.items ≡ self }
     {

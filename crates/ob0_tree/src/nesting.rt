@@ -1,8 +1,8 @@
 //! Computes the nesting of a module's constructs.
 //!
-//! The private functions use saturating addition, so the recursive functions need no precondition:
-//! their clauses say `capped (nesting ..)`. `Module::nesting` removes the cap, because by its
-//! invariant a module has at most 100 levels.
+//! The private functions use saturating addition, so that the recursive functions need no precondition: their clauses
+//! say `capped (nesting ..)`. `Module::nesting` removes the cap, because by its invariant a module has at most 100
+//! levels.
 
 ghost use Rattle.std.specs.Prelude.{◌≡◌, ◌+◌};
 ghost use Rattle.ob0_tree.specs.Tree.{nesting};
@@ -32,13 +32,14 @@ impl<'t> Module<'t> {
     }
 }
 
-/// Returns one level more, or the largest number of 32 bits if that is exceeded.
+/// Returns one level more, at most 2^32 - 1.
 fn deeper(levels: u32) -> u32
     ensures { result ≡ capped (levels + 1) }
 {
     levels.saturating_add(1)
 }
 
+/// Returns the nesting depth of an expression, at most 2^32 - 1.
 #[cycle(expressions)]
 fn expression(e: &Expression) -> u32
     ensures { result ≡ capped (nesting (expression_of e.now)) }
@@ -49,6 +50,7 @@ fn expression(e: &Expression) -> u32
     }
 }
 
+/// Returns the nesting depth of an expression that isn't a single factor, at most 2^32 - 1.
 #[cycle(expressions)]
 fn compound(c: &Compound) -> u32
     ensures { result ≡ capped (nesting (compound_of c.now)) }
@@ -60,6 +62,7 @@ fn compound(c: &Compound) -> u32
     }
 }
 
+/// Returns the nesting depth of a simple expression, at most 2^32 - 1.
 #[cycle(expressions)]
 fn simple(s: &Simple) -> u32
     ensures { result ≡ capped (nesting (simple_of s.now)) }
@@ -71,6 +74,7 @@ fn simple(s: &Simple) -> u32
     deepest
 }
 
+/// Returns the nesting depth of a term, at most 2^32 - 1.
 #[cycle(expressions)]
 fn term(t: &Term) -> u32
     ensures { result ≡ capped (nesting (term_of t.now)) }
@@ -82,6 +86,7 @@ fn term(t: &Term) -> u32
     deepest
 }
 
+/// Returns the nesting depth of a factor, at most 2^32 - 1.
 #[cycle(expressions)]
 fn factor(f: &Factor) -> u32
     ensures { result ≡ capped (nesting (factor_of f.now)) }
@@ -94,6 +99,7 @@ fn factor(f: &Factor) -> u32
     }
 }
 
+/// Returns the nesting depth of a name with its selectors, at most 2^32 - 1.
 #[cycle(expressions)]
 fn designator(d: &Designator) -> u32
     ensures { result ≡ capped (nesting (designator_of d.now)) }
@@ -105,6 +111,7 @@ fn designator(d: &Designator) -> u32
     deepest
 }
 
+/// Returns the nesting depth of a selector, at most 2^32 - 1.
 #[cycle(expressions)]
 fn selector(s: &Selector) -> u32
     ensures { result ≡ capped (nesting (selector_of s.now)) }
@@ -115,12 +122,14 @@ fn selector(s: &Selector) -> u32
     }
 }
 
+/// Returns the nesting depth of an assignment, at most 2^32 - 1.
 fn assignment(a: &Assignment) -> u32
     ensures { result ≡ capped (nesting (assignment_of a.now)) }
 {
     designator(&a.target).max(expression(&a.value))
 }
 
+/// Returns the nesting depth of a call, at most 2^32 - 1.
 fn call(c: &Call) -> u32
     ensures { result ≡ capped (nesting (call_of c.now)) }
 {
@@ -134,6 +143,7 @@ fn call(c: &Call) -> u32
     deepest
 }
 
+/// Returns the nesting depth of a sequence of statements, at most 2^32 - 1.
 #[cycle(statements)]
 fn sequence(statements: &Vec<Statement>) -> u32
     ensures { result ≡ capped (nesting (sequence_in statements.now)) }
@@ -145,6 +155,7 @@ fn sequence(statements: &Vec<Statement>) -> u32
     deepest
 }
 
+/// Returns the nesting depth of a statement, at most 2^32 - 1.
 #[cycle(statements)]
 fn statement(s: &Statement) -> u32
     ensures { result ≡ capped (nesting (statement_of s.now)) }
@@ -159,6 +170,7 @@ fn statement(s: &Statement) -> u32
     }
 }
 
+/// Returns the nesting depth of an IF statement, which counts itself, at most 2^32 - 1.
 #[cycle(statements)]
 fn branches(i: &If) -> u32
     ensures { result ≡ capped (nesting (if_of i.now)) }
@@ -171,6 +183,7 @@ fn branches(i: &If) -> u32
     }
 }
 
+/// Returns the nesting depth of the ELSIF parts of an IF statement, at most 2^32 - 1.
 #[cycle(statements)]
 fn elsifs(parts: &Vec<Elsif>) -> u32
     ensures { result ≡ capped (nesting (elsifs_in parts.now)) }
@@ -182,6 +195,7 @@ fn elsifs(parts: &Vec<Elsif>) -> u32
     deepest
 }
 
+/// Returns the nesting depth of a written type, at most 2^32 - 1.
 #[cycle(types)]
 fn written_type(t: &WrittenType) -> u32
     ensures { result ≡ capped (nesting (type_of t.now)) }
@@ -193,6 +207,7 @@ fn written_type(t: &WrittenType) -> u32
     }
 }
 
+/// Returns the nesting depth of a record type, which counts itself, at most 2^32 - 1.
 #[cycle(types)]
 fn record(r: &RecordType) -> u32
     ensures { result ≡ capped (nesting (record_in r.now)) }
@@ -204,6 +219,7 @@ fn record(r: &RecordType) -> u32
     deeper(deepest)
 }
 
+/// Returns the nesting depth of a group of fields, at most 2^32 - 1.
 #[cycle(types)]
 fn fields(f: &Fields) -> u32
     ensures { result ≡ capped (nesting (fields_of f.now)) }
@@ -214,12 +230,14 @@ fn fields(f: &Fields) -> u32
     }
 }
 
+/// Returns the nesting depth of a section of parameters, at most 2^32 - 1.
 fn section(s: &Section) -> u32
     ensures { result ≡ capped (nesting (section_of s.now)) }
 {
     written_type(&s.written)
 }
 
+/// Returns the nesting depth of the formal parameters of a heading, at most 2^32 - 1.
 fn formals(sections: &Option<Vec<Section>>) -> u32
     ensures { result ≡ capped (nesting (formals_of sections.now)) }
 {
@@ -233,6 +251,7 @@ fn formals(sections: &Option<Vec<Section>>) -> u32
     deepest
 }
 
+/// Returns the nesting depth of a CONST section, at most 2^32 - 1.
 fn constants(declared: &Option<Vec<Constant>>) -> u32
     ensures { result ≡ capped (nesting (constants_of declared.now)) }
 {
@@ -246,6 +265,7 @@ fn constants(declared: &Option<Vec<Constant>>) -> u32
     deepest
 }
 
+/// Returns the nesting depth of a TYPE section, at most 2^32 - 1.
 fn types(declared: &Option<Vec<TypeDeclaration>>) -> u32
     ensures { result ≡ capped (nesting (types_of declared.now)) }
 {
@@ -259,6 +279,7 @@ fn types(declared: &Option<Vec<TypeDeclaration>>) -> u32
     deepest
 }
 
+/// Returns the nesting depth of a VAR section, at most 2^32 - 1.
 fn variables(declared: &Option<Vec<Variables>>) -> u32
     ensures { result ≡ capped (nesting (variables_of declared.now)) }
 {
@@ -272,6 +293,7 @@ fn variables(declared: &Option<Vec<Variables>>) -> u32
     deepest
 }
 
+/// Returns the nesting depth of a block's statements, at most 2^32 - 1.
 fn body(statements: &Option<Vec<Statement>>) -> u32
     ensures { result ≡ capped (nesting (body_of statements.now)) }
 {
@@ -281,6 +303,7 @@ fn body(statements: &Option<Vec<Statement>>) -> u32
     }
 }
 
+/// Returns the nesting depth of a block and its procedures, at most 2^32 - 1.
 #[cycle(blocks)]
 fn block(b: &Block) -> u32
     ensures { result ≡ capped (nesting (block_of b.now)) }
@@ -296,6 +319,7 @@ fn block(b: &Block) -> u32
     declared.max(body(&b.body))
 }
 
+/// Returns the nesting depth of a procedure, which counts itself, at most 2^32 - 1.
 #[cycle(blocks)]
 fn procedure(p: &Procedure) -> u32
     ensures { result ≡ capped (nesting (procedure_of p.now)) }

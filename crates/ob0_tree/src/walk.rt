@@ -22,7 +22,7 @@ use crate::tree::{
 };
 use std::alloc::AllocError;
 
-/// A state that is updated at each identifier of a part of a module, in text order.
+/// A state that changes at each identifier of a part of a module. Identifiers are visited in text order.
 pub trait Visitor {
     /// Returns the state after an identifier, given its role, the index of its token and the state
     /// before.
@@ -55,6 +55,7 @@ pub fn expression<V: Visitor>(visitor: &mut V, e: &Expression) -> Result<(), All
     }
 }
 
+/// Visits the identifiers of an expression that isn't a single factor.
 #[cycle(expressions)]
 fn compound<V: Visitor>(visitor: &mut V, c: &Compound) -> Result<(), AllocError>
     ensures { OnOk result (visitor.new ≡ visited V.seen (compound_of c.now) visitor.old) }
@@ -66,6 +67,7 @@ fn compound<V: Visitor>(visitor: &mut V, c: &Compound) -> Result<(), AllocError>
     Ok(())
 }
 
+/// Visits the identifiers of a simple expression.
 #[cycle(expressions)]
 fn simple<V: Visitor>(visitor: &mut V, s: &Simple) -> Result<(), AllocError>
     ensures { OnOk result (visitor.new ≡ visited V.seen (simple_of s.now) visitor.old) }
@@ -77,6 +79,7 @@ fn simple<V: Visitor>(visitor: &mut V, s: &Simple) -> Result<(), AllocError>
     Ok(())
 }
 
+/// Visits the identifiers of a term.
 #[cycle(expressions)]
 fn term<V: Visitor>(visitor: &mut V, t: &Term) -> Result<(), AllocError>
     ensures { OnOk result (visitor.new ≡ visited V.seen (term_of t.now) visitor.old) }
@@ -88,6 +91,7 @@ fn term<V: Visitor>(visitor: &mut V, t: &Term) -> Result<(), AllocError>
     Ok(())
 }
 
+/// Visits the identifiers of a factor.
 #[cycle(expressions)]
 fn factor<V: Visitor>(visitor: &mut V, f: &Factor) -> Result<(), AllocError>
     ensures { OnOk result (visitor.new ≡ visited V.seen (factor_of f.now) visitor.old) }
@@ -100,6 +104,7 @@ fn factor<V: Visitor>(visitor: &mut V, f: &Factor) -> Result<(), AllocError>
     }
 }
 
+/// Visits the identifiers of a name with its selectors.
 #[cycle(expressions)]
 fn designator<V: Visitor>(visitor: &mut V, d: &Designator) -> Result<(), AllocError>
     ensures { OnOk result (visitor.new ≡ visited V.seen (designator_of d.now) visitor.old) }
@@ -111,6 +116,7 @@ fn designator<V: Visitor>(visitor: &mut V, d: &Designator) -> Result<(), AllocEr
     Ok(())
 }
 
+/// Visits the identifiers of a selector.
 #[cycle(expressions)]
 fn selector<V: Visitor>(visitor: &mut V, s: &Selector) -> Result<(), AllocError>
     ensures { OnOk result (visitor.new ≡ visited V.seen (selector_of s.now) visitor.old) }
@@ -124,6 +130,7 @@ fn selector<V: Visitor>(visitor: &mut V, s: &Selector) -> Result<(), AllocError>
     }
 }
 
+/// Visits the identifiers of an assignment.
 fn assignment<V: Visitor>(visitor: &mut V, a: &Assignment) -> Result<(), AllocError>
     ensures { OnOk result (visitor.new ≡ visited V.seen (assignment_of a.now) visitor.old) }
 {
@@ -131,6 +138,7 @@ fn assignment<V: Visitor>(visitor: &mut V, a: &Assignment) -> Result<(), AllocEr
     expression(visitor, &a.value)
 }
 
+/// Visits the identifiers of a call.
 fn call<V: Visitor>(visitor: &mut V, c: &Call) -> Result<(), AllocError>
     ensures { OnOk result (visitor.new ≡ visited V.seen (call_of c.now) visitor.old) }
 {
@@ -141,6 +149,7 @@ fn call<V: Visitor>(visitor: &mut V, c: &Call) -> Result<(), AllocError>
     Ok(())
 }
 
+/// Visits the identifiers of the arguments of a call.
 fn arguments<V: Visitor>(visitor: &mut V, given: &Vec<Expression>) -> Result<(), AllocError>
     ensures { OnOk result (visitor.new ≡ visited V.seen (arguments_in given.now) visitor.old) }
 {
@@ -150,6 +159,7 @@ fn arguments<V: Visitor>(visitor: &mut V, given: &Vec<Expression>) -> Result<(),
     Ok(())
 }
 
+/// Visits the identifiers of a sequence of statements.
 #[cycle(statements)]
 fn sequence<V: Visitor>(visitor: &mut V, statements: &Vec<Statement>) -> Result<(), AllocError>
     ensures { OnOk result (visitor.new ≡ visited V.seen (sequence_in statements.now) visitor.old) }
@@ -160,6 +170,7 @@ fn sequence<V: Visitor>(visitor: &mut V, statements: &Vec<Statement>) -> Result<
     Ok(())
 }
 
+/// Visits the identifiers of a statement.
 #[cycle(statements)]
 fn statement<V: Visitor>(visitor: &mut V, s: &Statement) -> Result<(), AllocError>
     ensures { OnOk result (visitor.new ≡ visited V.seen (statement_of s.now) visitor.old) }
@@ -180,6 +191,7 @@ fn statement<V: Visitor>(visitor: &mut V, s: &Statement) -> Result<(), AllocErro
     }
 }
 
+/// Visits the identifiers of an IF statement.
 #[cycle(statements)]
 fn branches<V: Visitor>(visitor: &mut V, i: &If) -> Result<(), AllocError>
     ensures { OnOk result (visitor.new ≡ visited V.seen (if_of i.now) visitor.old) }
@@ -193,6 +205,7 @@ fn branches<V: Visitor>(visitor: &mut V, i: &If) -> Result<(), AllocError>
     }
 }
 
+/// Visits the identifiers of the ELSIF parts of an IF statement.
 #[cycle(statements)]
 fn elsifs<V: Visitor>(visitor: &mut V, parts: &Vec<Elsif>) -> Result<(), AllocError>
     ensures { OnOk result (visitor.new ≡ visited V.seen (elsifs_in parts.now) visitor.old) }
@@ -233,6 +246,7 @@ pub fn written_type<V: Visitor>(visitor: &mut V, t: &WrittenType) -> Result<(), 
     }
 }
 
+/// Visits the identifiers of a record type.
 #[cycle(types)]
 fn record<V: Visitor>(visitor: &mut V, r: &RecordType) -> Result<(), AllocError>
     ensures { OnOk result (visitor.new ≡ visited V.seen (record_in r.now) visitor.old) }
@@ -243,6 +257,7 @@ fn record<V: Visitor>(visitor: &mut V, r: &RecordType) -> Result<(), AllocError>
     Ok(())
 }
 
+/// Visits the identifiers of a group of fields.
 #[cycle(types)]
 fn fields<V: Visitor>(visitor: &mut V, f: &Fields) -> Result<(), AllocError>
     ensures { OnOk result (visitor.new ≡ visited V.seen (fields_of f.now) visitor.old) }
@@ -256,6 +271,7 @@ fn fields<V: Visitor>(visitor: &mut V, f: &Fields) -> Result<(), AllocError>
     }
 }
 
+/// Visits the identifiers of a section of parameters.
 fn section<V: Visitor>(visitor: &mut V, s: &Section) -> Result<(), AllocError>
     ensures { OnOk result (visitor.new ≡ visited V.seen (section_of s.now) visitor.old) }
 {
@@ -263,6 +279,7 @@ fn section<V: Visitor>(visitor: &mut V, s: &Section) -> Result<(), AllocError>
     written_type(visitor, &s.written)
 }
 
+/// Visits the identifiers of the formal parameters of a heading.
 fn formals<V: Visitor>(visitor: &mut V, sections: &Option<Vec<Section>>) -> Result<(), AllocError>
     ensures { OnOk result (visitor.new ≡ visited V.seen (formals_of sections.now) visitor.old) }
 {
@@ -275,6 +292,7 @@ fn formals<V: Visitor>(visitor: &mut V, sections: &Option<Vec<Section>>) -> Resu
     Ok(())
 }
 
+/// Visits the identifiers of a CONST section.
 fn constants<V: Visitor>(
     visitor: &mut V,
     declared: &Option<Vec<Constant>>,
@@ -291,6 +309,7 @@ fn constants<V: Visitor>(
     Ok(())
 }
 
+/// Visits the identifiers of a TYPE section.
 fn types<V: Visitor>(
     visitor: &mut V,
     declared: &Option<Vec<TypeDeclaration>>,
@@ -307,6 +326,7 @@ fn types<V: Visitor>(
     Ok(())
 }
 
+/// Visits the identifiers of a VAR section.
 fn variables<V: Visitor>(
     visitor: &mut V,
     declared: &Option<Vec<Variables>>,
@@ -336,6 +356,7 @@ pub fn body<V: Visitor>(
     }
 }
 
+/// Visits the identifiers of a block and its procedures.
 #[cycle(blocks)]
 fn block<V: Visitor>(visitor: &mut V, b: &Block) -> Result<(), AllocError>
     ensures { OnOk result (visitor.new ≡ visited V.seen (block_of b.now) visitor.old) }
@@ -349,6 +370,7 @@ fn block<V: Visitor>(visitor: &mut V, b: &Block) -> Result<(), AllocError>
     body(visitor, &b.body)
 }
 
+/// Visits the identifiers of a procedure.
 #[cycle(blocks)]
 fn procedure<V: Visitor>(visitor: &mut V, p: &Procedure) -> Result<(), AllocError>
     ensures { OnOk result (visitor.new ≡ visited V.seen (procedure_of p.now) visitor.old) }

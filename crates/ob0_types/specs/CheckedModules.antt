@@ -29,7 +29,7 @@ pub record IsChecked (c : CheckedModule) : Type 0 where
   pub few : length c.faults ≤ max_faults
   pub first : AreFirstFaults c.names c.faults
 
--- holds if these are the faults of a checked module with some table of declarations
+-- holds if the module, with these faults and some table of declarations, is a checked module
 abbrev pub AreCheckedFaults : Resolution → List Fault → Type 0
 AreCheckedFaults names faults =
     (known : Option Tables) × IsChecked (record { names = names; faults = faults; known = known })
@@ -45,7 +45,8 @@ pub record AreTypesOf (names : Resolution) (types : ModuleTypes) : Type 0 where
   pub fields : types.faults.items ≡ [] → AreFields names types.fields
   pub faulty : AllPass (is_among types.faulty.items) (faulty_bodies names)
 
--- Holds if a table, if present, has the module's declarations. If the module is well-typed, the table is present.
+-- Holds if a table, if present, has the module's declarations, and it is present if the module is
+-- well-typed.
 pub record IsKnownWhereTyped (names : Resolution) (known : Option Tables) : Type 0 where
   pub holds : IfSome known (HasDeclarations (named_tree_of names.module_read))
   pub kept : WellTyped (named_tree_of names.module_read) → is_some known ≡ true

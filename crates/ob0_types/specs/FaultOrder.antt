@@ -12,7 +12,8 @@ use Rattle.ob0_scan.specs.declared.fault.Fault.{Fault}
 use Rattle.ob0_scope_table.specs.Resolution.{Resolution, is_of_declarations}
 use Rattle.ob0_types_check.specs.DeclarationFaults.{reported_module}
 
--- returns the number of a code; lexical codes come first, then codes of scopes, then codes of types
+-- returns the number of a code; codes are ordered by it, first lexical codes, then codes of scopes,
+-- then codes of types
 abbrev pub code_number : Code → ℕ
 code_number code.TooLong = 1
 code_number code.BadChar = 2
@@ -42,7 +43,7 @@ place_cmp x y = ordering_then (nat_cmp x.span.start y.span.start) (nat_cmp x.spa
 abbrev pub fault_cmp : Fault → Fault → Ordering
 fault_cmp x y = ordering_then (place_cmp x y) (nat_cmp (code_number x.code) (code_number y.code))
 
--- holds if `faults` are the first 100 of the found faults in the order of `fault_cmp`
+-- holds if `faults` are the first 100 of the faults `found`, sorted by `fault_cmp`
 pub record AreFirstOf (found faults : List Fault) : Type 0 where
   pub all : List Fault
   pub joined : IsPermutation found all

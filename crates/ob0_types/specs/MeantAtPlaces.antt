@@ -14,7 +14,7 @@ use Rattle.ob0_types.specs.declared.meant.Meant.TheVariants.{Name, Field}
 abbrev pub name_meant : named.Named → Identified
 name_meant n = record { token = n.token; means = Name n.ordinal }
 
--- returns the identifier of a field with its meaning: the field
+-- returns the identifier of a field with its meaning: the ordinal of the field's record
 abbrev pub field_meant : FieldName → Identified
 field_meant x = record { token = x.token; means = Field x.owner }
 

@@ -22,15 +22,18 @@ pub record OneBody : Type 0 where
 abbrev pub body_seen : Body → OneBody
 body_seen b = record { closing = b.closing; statements = body_of b.statements.now }
 
--- Returns the body that contains the tokens from index `low` upwards, if one body contains them.
+-- Returns the body that contains the tokens from index `low` upwards, if these tokens lie in one
+-- body. Otherwise the result is some body of the module.
 abbrev mutual
-  -- returns the body of the block with closing name `own`, or the body of a procedure in that block
+  -- returns the body of a block with closing name `own`, or of a procedure in that block; the
+  -- tokens from index `low` upwards decide which
   pub body_in_block : ℕ → ℕ → Tree ℕ block → OneBody
   body_in_block low own (has_body (declares cs ts vs ps) statements) =
       body_among low own ps statements
 
-  -- Returns the body of the first procedure that doesn't close before `low`, or the body of a procedure in that
-  -- procedure. If all procedures close before `low`, returns the body of their block.
+  -- Returns the body of the first procedure whose closing name isn't before `low`, or of a
+  -- procedure inside it. If there is none, returns the body of the surrounding block, with its
+  -- closing name `own` and these statements.
   pub body_among : ℕ → ℕ → Tree ℕ (items procedure) → Tree ℕ (maybe body) → OneBody
   body_among low own end statements = record { closing = own; statements = statements }
   body_among low own (more p ps) statements =
@@ -38,11 +41,13 @@ abbrev mutual
       then body_among low own ps statements
       else body_in_procedure low p
 
-  -- returns the body of the procedure, or the body of a procedure within this procedure
+  -- returns the body of the procedure, or of a procedure inside it; the tokens from index `low`
+  -- upwards decide which
   pub body_in_procedure : ℕ → Tree ℕ (item procedure) → OneBody
   body_in_procedure low (declares_procedure x fs b closing) = body_in_block low closing b
 
--- returns the body of the module, or the body of a procedure within the module
+-- returns the body of the module, or of a procedure inside it; the tokens from index `low` upwards
+-- decide which
 abbrev pub body_in_module : ℕ → Tree ℕ module_text → OneBody
 body_in_module low (is_module x b closing) = body_in_block low closing b
 

@@ -11,15 +11,15 @@ use Rattle.ob0_scope_table.specs.declared.resolved.Bindings.{Bindings}
 use Rattle.ob0_types.specs.CheckedModules.{AreTypesOf}
 use Rattle.ob0_types.specs.declared.checked.ModuleTypes.{ModuleTypes}
 
--- holds if `moved` is the result `types` with the faults at the same tokens of the text `new`
+-- holds if `moved` equals `types`, except that the faults are at the same tokens of the text `new`
 pub record AreTypesMoved (old new : Scanned) (types moved : ModuleTypes) : Type 0 where
   pub known : moved.known ≡ types.known
   pub fields : moved.fields ≡ types.fields
   pub faulty : moved.faulty ≡ types.faulty
   pub faults : moved.faults.items ≡ moved_faults old new types.faults.items
 
--- Suppose that the tokens of two texts have the same spellings and bindings. Then the result of checking one text is
--- also right for the other. The faults are moved to the same tokens.
+-- Suppose that the tokens of two texts have the same spellings and bindings. Then the result of
+-- checking one text also holds for the other, with the faults moved to the same tokens.
 abbrev pub TypesKeepTokens : Type 0
 TypesKeepTokens =
     (old new : Scanned) (tree : ModuleTree) (b c : Bindings) (types moved : ModuleTypes)

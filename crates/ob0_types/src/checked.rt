@@ -30,8 +30,8 @@ use std::alloc::{AllocError, Global};
 use std::borrow::Cow;
 use std::marker::Model;
 
-/// The number of faulty bodies above which all bodies are checked again. Searching a longer list for each body would
-/// take as many steps.
+/// The greatest number of faulty bodies of the text before for which only some bodies are checked again. If there are
+/// more, all bodies are, because searching a longer list for each body would take as many steps.
 const MOST_FAULTY: usize = 32;
 
 /// The result of checking a module. If the module is well-typed, `known` has its declarations and `fields` its fields.
@@ -325,6 +325,7 @@ fn add_declarations(faults: &mut Vec<Fault>, scopes: &[Fault]) -> Result<(), All
     Ok(())
 }
 
+/// Returns true if the fault is a duplicate declaration or a wrong closing name.
 fn is_of_declarations(fault: &Fault) -> bool
     ensures { result ≡ is_of_declarations fault.now }
 {

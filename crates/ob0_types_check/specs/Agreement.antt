@@ -17,8 +17,8 @@ use Rattle.ob0_language_values.specs.Values.{FieldShapes, Shape, Value, array_sh
 use Rattle.ob0_types_check.specs.Known.{Facts, Form, KnownFormal, Meaning, Types, a_constant, a_procedure, a_record, a_scalar, a_type, a_variable, an_array, unknown_form}
 use Rattle.ob0_types_check.specs.SoFar.{MadeType, PartTypes, FieldSoFar, of_elements, of_fields}
 
--- Holds if a type's form has the same parts as a shape. `shape` returns the shape of a type, or None if the type is
--- unknown.
+-- Holds if a type's form has the same parts as a shape. `shape` returns the shape of a type, or
+-- None if the type is unknown. A scalar's form agrees with every shape.
 abbrev pub FormAgrees : {T : Type 0} → (T → Option Shape) → Form T → Shape → Type 0
 FormAgrees shape a_scalar s = Unit {0}
 FormAgrees shape (an_array t) s =
@@ -52,8 +52,9 @@ FormalsAgree shape (f ∷ fs) [] = ⊥
 FormalsAgree shape (f ∷ fs) (g ∷ gs) =
     (g.mode ≡ mode_of f.by_place) × (shape f.of ≡ Some g.shape) × FormalsAgree shape fs gs
 
--- Holds if the meaning of a name agrees with the object that the name refers to. A type or variable has the object's
--- shape, a constant has its value, which is a scalar, and a procedure has its parameters.
+-- Holds if the meaning of a name agrees with the object that the name refers to. A type or variable
+-- has the object's shape. A constant has its value, which is a scalar. A procedure has its
+-- parameters.
 abbrev pub MeaningAgrees : {T : Type 0}
     → (T → Option Shape)
     → Meaning T
@@ -76,7 +77,7 @@ is_standard (Some (meant.a_variable s)) = false
 is_standard (Some (meant.a_procedure signature)) = false
 is_standard (Some (meant.a_standard p)) = true
 
--- holds if the meaning of a declaration agrees with its object, or neither exists
+-- holds if the meaning of a declaration agrees with its object, or the declaration has neither
 abbrev pub DeclarationAgrees : (TypeId → Option Shape)
     → Option (Meaning TypeId)
     → Option (meant.Object Shape Signature)
@@ -93,8 +94,9 @@ abbrev pub MeansAlike : {T : Type 0}
 MeansAlike shape None o = ⊥
 MeansAlike shape (Some m) o = MeaningAgrees shape m o
 
--- Holds if the identifier at a token agrees with the label that another tree has in its place. A looked-up name must
--- have a meaning that agrees with the label's object. A field must be spelled as in the text.
+-- Holds if the identifier at a token agrees with the label that another tree has in its place. A
+-- looked-up name must have a meaning that agrees with the label's object. A field's label must
+-- spell the token.
 abbrev pub TokenAgrees : {T N : Type 0}
     → Facts T
     → (T → Option Shape)
@@ -144,7 +146,8 @@ as_record boolean_shape = None
 as_record (array_shape k n s) = None
 as_record (record_shape k fs) = Some (record_shape k fs)
 
--- returns the shape of a type, given the shapes of the arrays and records so far; None for an unknown type
+-- returns the shape of a type, or None if the type is unknown; the list has the shapes of the
+-- arrays and records so far, by index
 abbrev pub shape_in : List Shape → TypeId → Option Shape
 shape_in shapes type.Integer = Some integer_shape
 shape_in shapes type.Boolean = Some boolean_shape
@@ -152,7 +155,7 @@ shape_in shapes (type.Array i) = option_and_then as_array (slice_get shapes i)
 shape_in shapes (type.Record i) = option_and_then as_record (slice_get shapes i)
 shape_in shapes type.Unknown = None
 
--- holds if the fields so far agree with the fields of a record's shape, one by one
+-- holds if the fields found so far have the names and shapes of a record's fields, one by one
 abbrev pub FieldsAgree : (TypeId → Option Shape) → List FieldSoFar → FieldShapes → Type 0
 FieldsAgree shape [] no_field_shape = Unit {0}
 FieldsAgree shape [] (next_field_shape x s fs) = ⊥
@@ -160,19 +163,21 @@ FieldsAgree shape (f ∷ fields) no_field_shape = ⊥
 FieldsAgree shape (f ∷ fields) (next_field_shape x s fs) =
     (f.name ≡ x) × (shape f.of ≡ Some s) × FieldsAgree shape fields fs
 
--- holds if the parts of an array or record agree with its shape, which the word with ordinal `k` makes
+-- holds if the parts of an array or record agree with its shape; `k` is the ordinal of its word
+-- ARRAY or RECORD
 abbrev pub PartsAgree : (TypeId → Option Shape) → ℕ → PartTypes → Shape → Type 0
 PartsAgree shape k (of_elements n t) s = (u : Shape) × (s ≡ array_shape k n u) × (shape t ≡ Some u)
 PartsAgree shape k (of_fields fields) s =
     (fs : FieldShapes) × (s ≡ record_shape k fs) × FieldsAgree shape fields fs
 
--- holds if an array or record agrees with its shape in its parts and its size
+-- holds if an array or record has the parts, the number of scalars and the depth of its shape
 pub record MadeAgrees (shape : TypeId → Option Shape) (m : MadeType) (s : Shape) : Type 0 where
   pub parts : PartsAgree shape m.ordinal m.parts s
   pub scalars : m.size.scalars ≡ typing.scalars s
   pub depth : m.size.depth ≡ typing.depth s
 
--- holds if each array and record agrees with its shape, one by one; their parts are among the shapes before them
+-- Holds if each array and record of the second list agrees with its shape in the third list, one by
+-- one. Their parts refer to the shapes before them; the first list has the shapes known so far.
 abbrev pub EachMade : List Shape → List MadeType → List Shape → Type 0
 EachMade known [] [] = Unit {0}
 EachMade known [] (s ∷ ss) = ⊥
@@ -180,6 +185,6 @@ EachMade known (m ∷ ms) [] = ⊥
 EachMade known (m ∷ ms) (s ∷ ss) =
     MadeAgrees (shape_in known) m s × EachMade (known ++ s ∷ []) ms ss
 
--- holds if all arrays and records agree with their shapes, one by one
+-- holds if each array and record of a table agrees with its shape, one by one
 abbrev pub TableAgrees : List MadeType → List Shape → Type 0
 TableAgrees made shapes = EachMade [] made shapes

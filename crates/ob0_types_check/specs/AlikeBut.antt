@@ -7,13 +7,13 @@ use Rattle.ob0_tree.specs.Tree.{Tree, block, declares, declares_procedure, end, 
 use Rattle.ob0_scope_table.specs.BodyAlone.{EachToken}
 use Rattle.ob0_scope_table.specs.Resolution.{Resolution, ordinal_in}
 
--- requires a proposition only if a test fails
+-- requires a proposition if a test is false, and nothing if it is true
 abbrev pub Unless : Bool → Type 0 → Type 0
 Unless true A = Unit {0}
 Unless false A = A
 
--- Holds if each token has the property `P`, except in the statements of the blocks whose closing names pass the test
--- `left_out`. The number is the token of the block's own closing name.
+-- Holds if each token has the property `P`, except in the statements of the blocks whose closing
+-- names pass the test `left_out`. The number is the token of the block's own closing name.
 abbrev mutual
   -- holds for a block if `P` holds for each of its tokens, except in statements of blocks whose closing names pass
   -- `left_out`

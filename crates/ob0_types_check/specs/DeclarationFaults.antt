@@ -16,14 +16,16 @@ use Rattle.ob0_types_check.specs.StatementFaults.{reported_sequence}
 use Rattle.ob0_types_check.specs.TypeFaults.{reported_constant}
 use Rattle.ob0_types_check.specs.WrittenTypeFaults.{reported_type}
 
--- returns the faults of a constant, and the state in which the constant is declared
+-- returns the faults of a constant's declaration, with the state after it, in which its name has a
+-- meaning
 unfoldable pub constant_declared : SoFar → Tree ℕ (item constant) → Reported SoFar
 unfolding reported_constant
 constant_declared p (declares_constant x e) = do
   v ← reported_constant (facts_at p true) e
   right (define p (a_constant v) x)
 
--- returns the faults of constants, and the state after them; each is known after its right side
+-- returns the faults of constants, with the state after them; a constant is known to the
+-- declarations after it
 unfoldable pub reported_constants : SoFar → Tree ℕ (items constant) → Reported SoFar
 unfolding constant_declared
 reported_constants p end = right p
@@ -31,14 +33,16 @@ reported_constants p (more c rest) = do
   q ← constant_declared p c
   reported_constants q rest
 
--- returns the faults of a type declaration, and the state in which the type is declared
+-- returns the faults of a type declaration, with the state after it, in which its name has a
+-- meaning
 unfoldable pub type_declared : SoFar → Tree ℕ (item type_name) → Reported SoFar
 unfolding reported_type
 type_declared p (declares_type x t) = do
   u ← reported_type 0 p t
   right (define u.following (a_type u.of) x)
 
--- returns the faults of type declarations, and the state after them; each is known after its right side
+-- returns the faults of type declarations, with the state after them; a type is known to the
+-- declarations after it
 unfoldable pub reported_types : SoFar → Tree ℕ (items type_name) → Reported SoFar
 unfolding type_declared
 reported_types p end = right p
@@ -46,14 +50,16 @@ reported_types p (more d rest) = do
   q ← type_declared p d
   reported_types q rest
 
--- returns the faults of a group of variables with one type, and the state in which they are declared
+-- returns the faults of a group of variables with one type, with the state after it, in which they
+-- have a meaning
 unfoldable pub variables_declared : SoFar → Tree ℕ (item variable) → Reported SoFar
 unfolding reported_type
 variables_declared p (declares_variable ns t) = do
   u ← reported_type 0 p t
   right (define_all u.following (a_variable u.of) (names_listed ns))
 
--- returns the faults of variables, and the state after them; each is known after its type
+-- returns the faults of variables, with the state after them; a variable is known to the
+-- declarations after it
 unfoldable pub reported_variables : SoFar → Tree ℕ (items variable) → Reported SoFar
 unfolding variables_declared
 reported_variables p end = right p
@@ -66,7 +72,8 @@ pub record KnownHeading : Type 0 where
   pub formals : List (KnownFormal TypeId)
   pub following : SoFar
 
--- adds parameters of one type to a heading, and declares them as variables of the procedure
+-- Returns a heading with parameters of one type added. They are also declared as variables of the
+-- procedure. If the Bool is true, they are VAR parameters.
 abbrev pub with_parameters : KnownHeading → Bool → List ℕ → TypedAfter → KnownHeading
 with_parameters h by_place xs t =
     record {
@@ -74,7 +81,8 @@ with_parameters h by_place xs t =
       following = define_all t.following (a_variable t.of) xs;
     }
 
--- returns the faults of parameters of one type, and the heading with these parameters
+-- Returns the faults of a section of parameters of one type, with the heading that includes them.
+-- If the Bool is true, they are VAR parameters.
 unfoldable pub reported_parameters : KnownHeading
     → Bool
     → Tree ℕ names
@@ -85,7 +93,7 @@ reported_parameters h by_place ns t = do
   u ← reported_type 0 h.following t
   right (with_parameters h by_place (names_listed ns) u)
 
--- returns the faults of a section of parameters, and the heading with them
+-- returns the faults of one section of parameters, with the heading that includes these parameters
 unfoldable pub reported_section : KnownHeading
     → Tree ℕ (item further_section)
     → Reported KnownHeading
@@ -103,11 +111,12 @@ reported_sections h (more s rest) = do
   g ← reported_section h s
   reported_sections g rest
 
--- returns the state after a heading, in which the procedure is declared, so that its own block knows it
+-- returns the state after a heading, in which the procedure `x` itself is declared, so that its own
+-- block knows it
 abbrev pub after_heading : ℕ → KnownHeading → SoFar
 after_heading x h = define h.following (a_procedure h.formals) x
 
--- returns the faults of a body's statements; the state is unchanged
+-- returns the faults of a body's statements, with the state before them, which they don't change
 unfoldable pub reported_body : SoFar → Tree ℕ (maybe body) → Reported SoFar
 unfolding reported_sequence
 reported_body p none = right p
@@ -126,7 +135,8 @@ unfoldable mutual
     with_procedures ← reported_procedures with_variables ps
     reported_body with_procedures statements
 
-  -- returns the faults of procedures, one after another; each procedure knows the earlier ones
+  -- returns the faults of procedures, one after another; each procedure knows the earlier ones and
+  -- itself
   pub reported_procedures : SoFar → Tree ℕ (items procedure) → Reported SoFar
   reported_procedures p end = right p
   reported_procedures p (more d rest) = do

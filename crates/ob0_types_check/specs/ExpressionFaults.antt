@@ -67,7 +67,8 @@ unfoldable mutual
     x ← reported_factor facts f
     complement_operand facts x
 
-  -- returns the faults of selectors applied to the operand of a designator, and the resulting operand
+  -- returns the faults of selectors applied one after another to an operand, with the resulting
+  -- operand
   pub reported_selectors : {T : Type 0}
       → Facts T
       → Operand T
@@ -82,7 +83,7 @@ unfoldable mutual
     y ← element_selected facts x i
     reported_selectors facts y rest
 
--- returns the faults of one selector applied to the operand of a designator, and the resulting operand
+-- returns the faults of one selector applied to an operand, with the resulting operand
 unfoldable pub reported_selector : {T : Type 0}
     → Facts T
     → Operand T

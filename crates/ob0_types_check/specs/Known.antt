@@ -14,7 +14,8 @@ pub data Form (T : Type 0) : Type 0 where
   a_record : (Name → Option T) → Form T
   unknown_form : Form T
 
--- a representation of types by `T`; one value of `T` is the unknown type
+-- a representation of types by values of `T`: INTEGER, BOOLEAN, the unknown type, equality of
+-- types, and the form of each type
 pub record Types (T : Type 0) : Type 0 where
   pub integer : T
   pub boolean : T
@@ -53,7 +54,7 @@ pub record Operand (T : Type 0) : Type 0 where
   pub first : ℕ
   pub last : ℕ
 
--- a result and the faults that are reported with it
+-- a result (`known`) and the faults that are reported while it is found
 pub record Reported (A : Type 0) : Type 0 where
   pub known : A
   pub faults : List Fault

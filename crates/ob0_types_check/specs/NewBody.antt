@@ -8,8 +8,8 @@ use Rattle.ob0_scope_table.specs.Resolution.{Resolution}
 use Rattle.ob0_tree.specs.Parsed.{tree_of}
 use Rattle.ob0_tree.specs.Places.{named}
 
--- Holds if the module fits without the statements of the block with this closing name. The statements themselves may be
--- any.
+-- Holds if the module fits, that is, is well-typed, when the statements of the block with this
+-- closing name are left out. Nothing is required of these statements.
 pub record FitsWithout (r : Resolution) (closing : ℕ) : Type 0 where
   pub way : Way
   pub at : closing_at way (tree_of r.module_read) ≡ closing

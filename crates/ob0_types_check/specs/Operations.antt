@@ -21,7 +21,7 @@ use Rattle.ob0_language_values.specs.Values.{Value, elements, members, negate, n
 use Rattle.ob0_language_values.specs.Values.{apply_sign as with_sign}
 use Rattle.ob0_types_check.specs.Known.{Facts, Form, Meaning, Operand, Reported, Types, a_constant, a_procedure, a_record, a_scalar, a_type, a_variable, an_array, unknown_form}
 
--- returns the same result with the faults `before` put before its own faults
+-- returns a result with its faults, preceded by the faults `before`
 abbrev pub preceded_by : {A : Type 0} → List Fault → Reported A → Reported A
 preceded_by before t = record { known = t.known; faults = before ++ t.faults }
 
@@ -30,11 +30,12 @@ abbrev pub right : {A : Type 0} → A → Reported A
 right x = record { known = x; faults = [] }
 
 infixl 20 ◌>>=◌
--- runs one step after another: the result has the faults of both steps, in order
+-- Applies `next` to the result of the first step. The faults of the first step come first, then the
+-- faults of `next`.
 abbrev pub ◌>>=◌ : {A B : Type 0} → Reported A → (A → Reported B) → Reported B
 t >>= next = preceded_by t.faults (next t.known)
 
--- holds if `x` is the result of `t`, and its faults are appended to the faults `before`
+-- holds if `x` is the result of `t`, and `after` is the list `before` followed by the faults of `t`
 pub record ReportsAfter
     {A : Type 0} (before after : List Fault) (x : A) (t : Reported A) : Type 0 where
   pub known : x ≡ t.known
@@ -72,16 +73,18 @@ at_operand facts c o = at_tokens facts c o.first o.last
 abbrev pub fits : {T : Type 0} → Types T → T → T → Bool
 fits types s t = types.same s t || (types.same s types.unknown || types.same t types.unknown)
 
--- Requires a type of an operand. The operand is reported if its type is known and differs. The result is the required
--- type if the operand has it, otherwise the unknown type.
+-- Requires the type `wanted` of an operand. The operand is reported if its type is known and
+-- differs from a known `wanted`. The result is `wanted` if the operand has this type, otherwise the
+-- unknown type.
 abbrev pub required : {T : Type 0} → Facts T → T → Operand T → Reported T
 required facts wanted o = record {
   known = if facts.types.same o.of wanted then wanted else facts.types.unknown;
   faults = if fits facts.types o.of wanted then [] else at_operand facts code.TypeMismatch o;
 }
 
--- Requires a type of two operands. The left operand is reported if it doesn't fit, otherwise the right one if it
--- doesn't. The result is the required type if both have it, otherwise the unknown type.
+-- Requires the type `wanted` of two operands. The left operand is reported if it has another type,
+-- otherwise the right one if it has. The result is `wanted` if both have this type, otherwise the
+-- unknown type.
 abbrev pub required_both : {T : Type 0} → Facts T → T → Operand T → Operand T → Reported T
 required_both facts wanted a b =
     if fits facts.types a.of wanted
@@ -106,14 +109,16 @@ required_by_multiply types multiply_operator.Divide = types.integer
 required_by_multiply types multiply_operator.Modulo = types.integer
 required_by_multiply types multiply_operator.And = types.boolean
 
--- Returns the type that `=` and `#` require of both operands: INTEGER or BOOLEAN. If the left operand's type is
--- unknown, the result is unknown, so nothing is required.
+-- Returns the type that `=` and `#` require of both operands: INTEGER if the left operand is
+-- INTEGER, otherwise BOOLEAN. If the left operand's type is unknown, the result is unknown, so
+-- nothing is required.
 abbrev pub required_by_equality : {T : Type 0} → Types T → T → T
 required_by_equality types left =
     if types.same left types.integer then types.integer
     else if types.same left types.unknown then types.unknown else types.boolean
 
--- returns the type that a relation requires of both operands: INTEGER, except for `=` and `#`
+-- Returns the type that a relation requires of both operands, given the left operand's type. It is
+-- INTEGER except for `=` and `#`.
 abbrev pub required_by_relation : {T : Type 0} → Types T → Relation → T → T
 required_by_relation types relation.Equal left = required_by_equality types left
 required_by_relation types relation.NotEqual left = required_by_equality types left
@@ -122,16 +127,18 @@ required_by_relation types relation.LessEqual left = types.integer
 required_by_relation types relation.Greater left = types.integer
 required_by_relation types relation.GreaterEqual left = types.integer
 
--- returns the type of a comparison: BOOLEAN, or unknown if the type of its operands is unknown
+-- returns the type of a comparison, given the type that both operands have: BOOLEAN, or unknown if
+-- this type is unknown
 abbrev pub comparison_type : {T : Type 0} → Types T → T → T
 comparison_type types t = if types.same t types.unknown then types.unknown else types.boolean
 
--- returns the operand for an operation on two operands, with this type and value
+-- returns the operand for an operation on the operands `a` and `b`, with the type `of` and this
+-- value
 abbrev pub joint_operand : {T : Type 0} → T → Option Value → Operand T → Operand T → Operand T
 joint_operand of value a b =
     record { of = of; value = value; is_place = false; first = a.first; last = b.last }
 
--- returns the operand for a sign or `~` and the operand after it, with this type and value
+-- returns the operand for a sign or `~` before the operand `o`, with the type `of` and this value
 abbrev pub after_sign : {T : Type 0} → T → Option Value → Operand T → Operand T
 after_sign of value o =
     record { of = of; value = value; is_place = false; first = token_before o.first; last = o.last }
@@ -194,7 +201,7 @@ a_number facts token =
       last = token;
     }
 
--- returns the operand of an expression in parentheses
+-- returns the operand of an expression in parentheses, given the operand between them
 abbrev pub enclosed : {T : Type 0} → Facts T → Operand T → Operand T
 enclosed facts o =
     record {
@@ -205,7 +212,8 @@ enclosed facts o =
       last = token_after facts.source o.last;
     }
 
--- returns the operand of a variable's name with this type, or of a name without a known meaning
+-- Returns the operand of a name with this type at a token. It may be a place. The name is a
+-- variable's, or has no known meaning.
 abbrev pub a_name : {T : Type 0} → T → ℕ → Operand T
 a_name of token = record { of = of; value = None; is_place = true; first = token; last = token }
 
@@ -217,7 +225,8 @@ value_type types (Some (truth b)) = types.boolean
 value_type types (Some (elements vs)) = types.unknown
 value_type types (Some (members k ms)) = types.unknown
 
--- returns the operand of a constant's name
+-- returns the operand of a constant's name at a token; None means that the constant has no known
+-- value
 abbrev pub a_constant_name : {T : Type 0} → Types T → Option Value → ℕ → Operand T
 a_constant_name types v token =
     record { of = value_type types v; value = v; is_place = false; first = token; last = token }
@@ -243,18 +252,20 @@ named_value facts token (Some (a_procedure fs)) =
 abbrev pub name_operand : {T : Type 0} → Facts T → ℕ → Reported (Operand T)
 name_operand facts token = named_value facts token (facts.object_for token)
 
--- returns the operand for the part of a designator up to this token, with this type and no constant value
+-- returns the operand for the part of a designator up to the token `last`, with the type `of` and
+-- no constant value
 abbrev pub part_of : {T : Type 0} → Operand T → T → ℕ → Operand T
 part_of o of last =
     record { of = of; value = None; is_place = o.is_place; first = o.first; last = last }
 
--- returns the type of a record's field; None reports `NoField`
+-- returns the type of a record's field with the name at a token; reports `NoField` if there is none
 abbrev pub found_field : {T : Type 0} → Facts T → ℕ → Option T → Reported T
 found_field facts token None =
     record { known = facts.types.unknown; faults = at_token facts code.NoField token }
 found_field facts token (Some t) = right t
 
--- returns the type of a field selected from a type; if that type isn't a record, `NotRecord` is reported at the `.`
+-- Returns the type of the field with the name at a token, given the form of the type before the
+-- `.`. If that type is known and not a record, `NotRecord` is reported at the `.`.
 abbrev pub field_in : {T : Type 0} → Facts T → ℕ → Form T → Reported T
 field_in facts token (a_record fields) =
     found_field facts token (fields (text_at facts.source token))
@@ -266,14 +277,16 @@ field_in facts token (an_array t) =
     record
     { known = facts.types.unknown; faults = at_token facts code.NotRecord (token_before token) }
 
--- returns the faults of selecting a field, and the operand of the designator with this field
+-- returns the faults of selecting the field with the name at a token, with the operand of the whole
+-- designator
 abbrev pub field_selected : {T : Type 0} → Facts T → Operand T → ℕ → Reported (Operand T)
 field_selected facts o token = do
   t ← field_in facts token (facts.types.form o.of)
   right (part_of o t token)
 
--- Returns the type of an array's element, or unknown if the index isn't INTEGER. If the type isn't an array, `NotArray`
--- is reported at the `[` before the index.
+-- Returns the type of an element, given the index's operand, the index's type `of`, and the form of
+-- the indexed type. It is unknown if the index isn't INTEGER. If the indexed type is known and not
+-- an array, `NotArray` is reported at the `[`.
 abbrev pub element_in : {T : Type 0} → Facts T → Operand T → T → Form T → Reported T
 element_in facts i of (an_array t) =
     right (if facts.types.same of facts.types.integer then t else facts.types.unknown)
@@ -285,8 +298,8 @@ element_in facts i of (a_record fields) =
     record
     { known = facts.types.unknown; faults = at_token facts code.NotArray (token_before i.first) }
 
--- Returns the faults of an index, and the operand of the designator with this index. The index must be INTEGER even if
--- there is no array.
+-- Returns the faults of the index `i` applied to the operand `o`, with the operand of the whole
+-- designator. The index must be INTEGER even if `o` isn't an array.
 abbrev pub element_selected : {T : Type 0} → Facts T → Operand T → Operand T → Reported (Operand T)
 element_selected facts o i = do
   n ← required facts facts.types.integer i

@@ -15,14 +15,13 @@ use Rattle.ob0_types_check.specs.StatementFaults.{reported_sequence}
 use Rattle.ob0_types_check.specs.TypeFaults.{length_of, reported_constant}
 use Rattle.ob0_types_check.specs.Agreement.{Agrees, TableAgrees, TypesAgree, shape_in}
 
--- returns the meanings at a place; in a constant expression only constants have a meaning
+-- returns the meanings of names at a place; if the Bool is true, only constants have a meaning
 abbrev pub meaning_here : {N : Type 0} → Bool → Typed N → Typed N
 meaning_here true meaning = constants_only meaning
 meaning_here false meaning = meaning
 
--- Holds if an operand agrees with its expression in its type and its value. The value is present if the expression is
--- constant, and it has that type. If the operand may be a place, the expression is a variable or parameter with its
--- selectors.
+-- Holds if an operand has the type of its expression, and the value that the expression has as a
+-- constant. A value has the operand's type.
 pub record OperandFits
     {T N P : Type 0} (shape : T → Option Shape) (meaning : Meanings N Shape P) (o : Operand T)
     (e : Tree N expression) : Type 0 where
@@ -61,7 +60,8 @@ ConstantsFit N =
     → ConstantFits meaning (reported_constant (facts_at p true) e).known
     (mapped label (value_at p.source) e)
 
--- holds if the reported length of an array is the length that its expression gives
+-- holds if the reported length of an array is the value of the length's expression, and is a valid
+-- length
 pub record LengthFits
     {N : Type 0} (meaning : Typed N) (reported : Option ℕ) (e : Tree N expression) : Type 0 where
   pub value : Value
@@ -70,7 +70,8 @@ pub record LengthFits
   pub given : constant_value meaning e ≡ Some value
   pub counted : array_length value ≡ Some length
 
--- If no fault is reported for an array's length, the reported length is the length that its expression gives.
+-- If no fault is reported for an array's length, the reported length is the value of the length's
+-- expression.
 abbrev pub LengthsFit : Type 0 → Type 0
 LengthsFit N =
     (p : SoFar) (shapes : List Shape) (label : ℕ → N) (meaning : Typed N) (e : Tree ℕ expression)
@@ -80,7 +81,7 @@ LengthsFit N =
     (reported_expression (facts_at p true) e >>= length_of (facts_at p false)).known
     (mapped label (value_at p.source) e)
 
--- Statements fit if no fault is reported for them.
+-- Statements are well-typed if no fault is reported for them.
 abbrev pub StatementsFit : Type 0 → Type 0
 StatementsFit N =
     (p : SoFar) (shapes : List Shape) (label : ℕ → N) (meaning : Typed N)
@@ -89,7 +90,7 @@ StatementsFit N =
     → reported_sequence (facts_at p false) statements ≡ []
     → sequence_fits meaning (mapped label (value_at p.source) statements) ≡ true
 
--- If the arrays and records agree with their shapes, so do all types.
+-- If each array and record agrees with its shape, every type agrees with its shape.
 abbrev pub TypesOfTables : Type 0
 TypesOfTables =
     (made : List MadeType) (shapes : List Shape)

@@ -42,7 +42,7 @@ pub record SoFar : Type 0 where
   pub declared : List (Option (Meaning TypeId))
   pub made : List MadeType
 
--- returns true if two types are the same; an array or record is the same only as itself
+-- returns true if two types are the same; an array or record equals only the one with its own index
 abbrev pub same_type : TypeId → TypeId → Bool
 same_type type.Integer type.Integer = true
 same_type type.Boolean type.Boolean = true
@@ -61,7 +61,7 @@ abbrev pub elements_at : Option MadeType → TypeId
 elements_at None = type.Unknown
 elements_at (Some m) = elements_in m.parts
 
--- returns the type of the first field with this name; None if there is none
+-- returns the type of the first field with this name, or None if the list has no such field
 abbrev pub first_field : List FieldSoFar → Name → Option TypeId
 first_field [] x = None
 first_field (f ∷ fields) x = if same_name x f.name then Some f.of else first_field fields x
@@ -84,7 +84,7 @@ form_at made (type.Array i) = an_array (elements_at (slice_get made i))
 form_at made (type.Record i) = a_record (made_field_type (slice_get made i))
 form_at made type.Unknown = unknown_form
 
--- returns the types so far as a representation of types
+-- returns the types found so far as a representation of types
 abbrev pub types_at : List MadeType → Types TypeId
 types_at made =
     record {
@@ -100,7 +100,7 @@ abbrev pub meaning_at : SoFar → ℕ → Option (Meaning TypeId)
 meaning_at p token =
     option_and_then (λ k. slice_index_or p.declared k None) (ordinal_in p.ordinals token)
 
--- returns the facts at a place, for any expression or for constant expressions only
+-- returns the facts at a place; if the Bool is true, names may only refer to constants there
 abbrev pub facts_at : SoFar → Bool → Facts TypeId
 facts_at p only_constants =
     record {
@@ -160,7 +160,7 @@ pub record TypedAfter : Type 0 where
   pub of : TypeId
   pub following : SoFar
 
--- returns the type of the array or record at this index of the list
+-- returns the type of an array or record with these parts at index `k` of the list
 abbrev pub type_with : PartTypes → ℕ → TypeId
 type_with (of_elements n t) k = type.Array k
 type_with (of_fields fields) k = type.Record k
@@ -191,7 +191,8 @@ abbrev pub make : SoFar → ℕ → ℕ → PartTypes → Size → Reported Type
 make p word ordinal parts size =
     if is_within size then right (made p ordinal parts size) else too_large p word
 
--- the meanings of the predeclared names, by ordinal: INTEGER, BOOLEAN, TRUE, FALSE, Read, Write, WriteLn
+-- returns the meanings of the predeclared names, by ordinal: INTEGER, BOOLEAN, TRUE, FALSE, Read,
+-- Write, WriteLn
 abbrev pub predeclared_meanings : List (Option (Meaning TypeId))
 predeclared_meanings =
     Some (a_type type.Integer) ∷ Some (a_type type.Boolean)

@@ -28,7 +28,8 @@ abbrev pub with_faulty : List Fault → ℕ → List ℕ → List ℕ
 with_faulty [] own faulty = faulty
 with_faulty (fault ∷ faults) own faulty = faulty ++ own ∷ []
 
--- returns the faults of a body if it is wanted; `own` is the token of its block's closing name
+-- If the Bool is true, reports the faults of a body. If there are any, appends its block's closing
+-- name `own` to the faulty ones. Otherwise reports nothing and changes nothing.
 abbrev pub body_if : Bool → ℕ → Walked → Tree ℕ (maybe body) → Reported Walked
 body_if false own w statements = right w
 body_if true own w statements =
@@ -44,8 +45,8 @@ body_if true own w statements =
 unfoldable mutual
   unfolding reported_constants reported_types reported_variables reported_sections reported_body
 
-  -- Returns the faults of a block's declarations, and of its statements if its closing name `own` passes the test
-  -- `wanted`.
+  -- Returns the faults of a block's declarations, and of its statements if its closing name `own`
+  -- passes the test `wanted`. Procedures inside the block are tested one by one.
   pub block_with : (ℕ → Bool) → ℕ → Walked → Tree ℕ block → Reported Walked
   block_with wanted own w (has_body (declares cs ts vs ps) statements) = do
     with_constants ← reported_constants w.so_far (section_constants cs)
@@ -55,20 +56,23 @@ unfoldable mutual
         procedures_with wanted (record { so_far = with_variables; faulty = w.faulty }) ps
     body_if (wanted own) own with_procedures statements
 
-  -- returns the faults of procedures, one after another
+  -- returns the faults of procedures, one after another; the bodies are included whose closing
+  -- names pass `wanted`
   pub procedures_with : (ℕ → Bool) → Walked → Tree ℕ (items procedure) → Reported Walked
   procedures_with wanted w end = right w
   procedures_with wanted w (more d rest) = do
     v ← procedure_with wanted w d
     procedures_with wanted v rest
 
-  -- returns the faults of a procedure: of its parameters, and then of its block
+  -- returns the faults of a procedure's parameters, and then of its block; the bodies are included
+  -- whose closing names pass `wanted`
   pub procedure_with : (ℕ → Bool) → Walked → Tree ℕ (item procedure) → Reported Walked
   procedure_with wanted w (declares_procedure x fs b closing) = do
     h ← reported_sections (record { formals = []; following = w.so_far }) (formal_sections fs)
     block_with wanted closing (record { so_far = after_heading x h; faulty = w.faulty }) b
 
--- returns the faults of a module's declarations, and of the bodies whose closing names pass the test
+-- returns the faults of a module's declarations, and of the bodies whose closing names pass the
+-- test `wanted`
 abbrev pub module_with : (ℕ → Bool) → Resolution → Reported Walked
 module_with wanted r =
     block_with wanted r.module_read.closing (record { so_far = at_first r; faulty = [] })
@@ -95,8 +99,8 @@ AllPass test (closing ∷ others) = (test closing ≡ true) × AllPass test othe
 abbrev pub wants : Wanted → ℕ → Bool
 wants w closing = w.every || is_among w.these.now closing
 
--- Holds if the wanted bodies include every body that had a fault in some older version of the module. Both versions are
--- alike except in the statements of wanted bodies.
+-- Holds if the module has an older version whose faulty bodies are all wanted. Except in the
+-- statements of wanted bodies, both versions are alike.
 pub record WereFaulty (wanted : ℕ → Bool) (r : Resolution) : Type 0 where
   pub old : Resolution
   pub resolved : IsResolution old
@@ -112,14 +116,15 @@ SomeBodiesReported =
     → WereFaulty wanted r
     → module_with wanted r ≡ module_with every r
 
--- holds if a report has the faults of a module, its declarations if there are no faults, and its bodies with faults
+-- Holds if a report has the faults of the module `r` and the closing names of its bodies with
+-- faults. Exactly if there are no faults, it has the objects of all declarations.
 pub record IsReportOf (r : Resolution) (report : Report) : Type 0 where
   pub faults : report.faults.items ≡ reported_module r
   pub known : MatchOption report.known (reported_module r ≡ [] → ⊥)
       (λ t. (reported_module r ≡ []) × HasDeclarations (named_tree_of r.module_read) t)
   pub faulty : report.faulty.items ≡ faulty_bodies r
 
--- returns the state of the code's walk as a state of the definitions
+-- returns the state of the code's walk, with these faulty bodies, as a state of the definitions
 abbrev pub walked_in : Supposed → List ℕ → Walked
 walked_in s faulty = record { so_far = so_far_in s; faulty = faulty }
 

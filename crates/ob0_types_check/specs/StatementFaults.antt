@@ -19,8 +19,9 @@ reported_required facts wanted e = (reported_expression facts e >>= required fac
 abbrev pub reported_condition : {T : Type 0} → Facts T → Tree ℕ expression → List Fault
 reported_condition facts e = reported_required facts facts.types.boolean e
 
--- Returns the type of the name that is assigned to. The name must be a variable's or parameter's. For any other name
--- the type is unknown, so its selectors and the right side may have any type.
+-- Returns the type of the name that is assigned to, given its token and its meaning. The name must
+-- be a variable's or parameter's. For any other name the type is unknown, so its selectors and the
+-- right side may have any type.
 abbrev pub target_by_meaning : {T : Type 0} → Facts T → ℕ → Option (Meaning T) → Reported T
 target_by_meaning facts token (Some (a_variable t)) = right t
 target_by_meaning facts token (Some (a_constant v)) =
@@ -46,7 +47,8 @@ reported_target facts x path = do
   t ← target_meaning facts x
   reported_selectors facts (a_name t x) path
 
--- returns the faults of an assignment, whose right side must have the type of the target
+-- returns the faults of an assignment's target, and then of its right side, which must have the
+-- type of the target
 abbrev pub reported_assignment : {T : Type 0}
     → Facts T
     → Reported (Operand T)
@@ -54,8 +56,8 @@ abbrev pub reported_assignment : {T : Type 0}
     → List Fault
 reported_assignment facts target e = target.faults ++ reported_required facts target.known.of e
 
--- Requires the type of the parameter from an argument. For a VAR parameter the argument must also be a variable with
--- its selectors.
+-- Requires of an argument the type of its parameter. For a VAR parameter the argument must also be
+-- a variable with its selectors; otherwise only `NotVariable` is reported.
 abbrev pub passed : {T : Type 0} → Facts T → KnownFormal T → Operand T → Reported T
 passed facts f o =
     if f.by_place && not o.is_place
@@ -71,7 +73,8 @@ unfoldable pub reported_argument : {T : Type 0}
 unfolding reported_expression
 reported_argument facts f e = (reported_expression facts e >>= passed facts f).faults
 
--- returns the faults of arguments, each with its parameter
+-- returns the faults of arguments, each checked with the parameter at its index; surplus arguments
+-- or parameters are ignored
 abbrev pub reported_arguments : {T : Type 0}
     → Facts T
     → List (KnownFormal T)
@@ -87,8 +90,9 @@ abbrev pub reported_parts : {T : Type 0} → Facts T → List (Tree ℕ expressi
 reported_parts facts [] = []
 reported_parts facts (e ∷ es) = (reported_expression facts e).faults ++ reported_parts facts es
 
--- Returns the faults of a call. A procedure needs as many arguments as it has parameters; otherwise only their number
--- is reported. If the name isn't a procedure's, the arguments may have any type. An undeclared name is reported
+-- Returns the faults of a call of the name at token `p`, given the name's meaning. A procedure
+-- needs as many arguments as it has parameters; otherwise only their number is reported. If the
+-- name isn't a procedure's, the arguments may have any type. An undeclared name is reported
 -- elsewhere.
 abbrev pub call_by_meaning : {T : Type 0}
     → Facts T

@@ -33,13 +33,14 @@ elements_of None = type.Unknown
 elements_of (Some (made.Array a)) = a.element
 elements_of (Some (made.Record r)) = type.Unknown
 
--- returns the type of a record's field; None if there is no record or no such field
+-- returns the type of a record's first field with this name; None if there is no record or no such
+-- field
 abbrev pub field_of : Option TypeEntry → Name → Option TypeId
 field_of None x = None
 field_of (Some (made.Array a)) x = None
 field_of (Some (made.Record r)) x = first_field_type r.fields x
 
--- returns the form of a type of the code
+-- returns the form of a type, given the code's list of arrays and records
 abbrev pub form_in : List TypeEntry → TypeId → Form TypeId
 form_in composites type.Integer = a_scalar
 form_in composites type.Boolean = a_scalar
@@ -47,7 +48,7 @@ form_in composites (type.Array i) = an_array (elements_of (slice_get composites 
 form_in composites (type.Record i) = a_record (field_of (slice_get composites i))
 form_in composites type.Unknown = unknown_form
 
--- returns the types of the code as a representation of types
+-- returns the code's types, with its list of arrays and records, as a representation of types
 abbrev pub known_types : List TypeEntry → Types TypeId
 known_types composites =
     record {
@@ -58,11 +59,11 @@ known_types composites =
       form = form_in composites;
     }
 
--- returns a formal parameter of the code as one of the definitions
+-- returns a formal parameter of the code as a formal parameter of the definitions
 abbrev pub formal_of : formal.Formal → KnownFormal TypeId
 formal_of f = record { by_place = f.by_place; of = f.of }
 
--- returns the meaning of a declaration of the code as one of the definitions
+-- returns the meaning of a declaration in the code as a meaning of the definitions
 abbrev pub known_meaning : meaning.Meaning → Meaning TypeId
 known_meaning (declared.Named t) = a_type t
 known_meaning (declared.Constant v) = a_constant (option_map scalar_value v)
@@ -75,7 +76,8 @@ supposed_meaning_at s token =
     option_and_then (λ k. slice_index_or s.meanings.items k None)
     (ordinal_in s.resolved.now.ordinals token)
 
--- returns the facts at a place according to the state of the code
+-- returns the facts at a place according to the state of the code; if the Bool is true, names may
+-- only refer to constants
 abbrev pub facts_in : Supposed → Bool → Facts TypeId
 facts_in s only_constants = record {
   source = s.resolved.now.module_read.source;
@@ -84,7 +86,7 @@ facts_in s only_constants = record {
   only_constants = only_constants;
 }
 
--- returns an operand of the code as one of the definitions
+-- returns an operand of the code as an operand of the definitions
 abbrev pub operand_of : operand.Operand → Operand TypeId
 operand_of o =
     record {
@@ -95,7 +97,7 @@ operand_of o =
       last = o.last;
     }
 
--- returns a size of the code as one of the definitions
+-- returns a size of the code as a size of the definitions
 abbrev pub size_of : code_size.Size → Size
 size_of z = record { scalars = z.scalars; depth = z.depth }
 
@@ -103,7 +105,7 @@ size_of z = record { scalars = z.scalars; depth = z.depth }
 abbrev pub fields_in : List Field → List FieldSoFar
 fields_in fields = map (λ f. record { name = string_bytes f.name; of = f.of }) fields
 
--- returns an array or record of the code as one of the definitions
+-- returns an array or record of the code as an array or record of the definitions
 abbrev pub made_type_of : TypeEntry → MadeType
 made_type_of (made.Array a) =
     record {
@@ -118,7 +120,7 @@ made_type_of (made.Record r) =
       size = record { scalars = r.scalars; depth = r.depth };
     }
 
--- returns the state of the code as one of the definitions
+-- returns the state of the code's walk as a state of the definitions
 abbrev pub so_far_in : Supposed → SoFar
 so_far_in s = record {
   source = s.resolved.now.module_read.source;
@@ -135,13 +137,15 @@ heading_in s formals = record { formals = map formal_of formals; following = so_
 abbrev pub counted : Size → Size
 counted z = record { scalars = min z.scalars (2 ^ 64 - 1); depth = min z.depth (2 ^ 64 - 1) }
 
--- holds if the code has gathered the fields `g` of a record, and its state is the state after them
+-- holds if the code's state `now` has the fields `g` and their size, capped at 2^64 - 1, and `s` is
+-- the state after them
 pub record IsGathered (g : Gathered) (s : Supposed) (now : gathering.Gathered) : Type 0 where
   pub fields : fields_in now.fields.items ≡ g.fields
   pub size : size_of now.size ≡ counted g.size
   pub following : so_far_in s ≡ g.following
 
--- holds if the code has gathered a record's fields, and has appended their faults to the faults `before`
+-- holds if the code has gathered the fields of `t`, and has appended the faults of `t` to the
+-- faults `before`
 pub record Gathers
     (before after : List Fault) (s : Supposed) (gathered : gathering.Gathered)
     (t : Reported Gathered) : Type 0 where

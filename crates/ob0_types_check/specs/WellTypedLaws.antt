@@ -1,4 +1,5 @@
--- Laws about well-typed modules and well-typed parts of modules: no fault of types is reported. N is the type of names.
+-- Laws about well-typed modules and well-typed parts of modules: no fault of types is reported. N
+-- is the type of names.
 -- Rule: docs/LANGUAGE.md, Types 8; laws of reported faults.
 use Rattle.std.specs.Prelude.{◌≡◌, ℕ, Bool, true, false, [], List, Option, Some, None, option_and_then, is_some, slice_get}
 use Rattle.std.specs.List.{filter}
@@ -63,7 +64,7 @@ constructor_of boolean_shape = None
 constructor_of (array_shape k n s) = Some k
 constructor_of (record_shape k fs) = Some k
 
--- holds if no two shapes in the list are made by the same word ARRAY or RECORD
+-- holds if no two entries of the list are made by the same word ARRAY or RECORD
 abbrev pub EachOnce : List Shape → Type 0
 EachOnce shapes =
     (i j k : ℕ) (s t : Shape) → slice_get shapes i ≡ Some s → slice_get shapes j ≡ Some t

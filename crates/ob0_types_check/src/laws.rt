@@ -6,32 +6,34 @@ ghost use Rattle.ob0_types_check.specs.SomeBodies.{SomeBodiesReported};
 ghost use Rattle.ob0_types_check.specs.WellTypedLaws.{NamesBound, NoFaultInConstants, NoFaultInExpressions, NoFaultInLengths, NoFaultInModules, NoFaultInStatements, NoFaultInTargets};
 ghost use Rattle.ob0_language_names.specs.Names.{Name};
 
-/// Proves that if no fault is reported for an expression, its reported type and value are right.
+/// Proves that if no fault is reported for an expression, the reported type and value are its type and value by the
+/// definitions.
 pub fn expressions_fit()
     ensures { ExpressionsFit Name }
 {}
 
-/// Proves that if no fault is reported for a constant's right side, its reported value is right.
+/// Proves that if no fault is reported for a constant's right side, the reported value is the value of that expression.
 pub fn constants_fit()
     ensures { ConstantsFit Name }
 {}
 
-/// Proves that if no fault is reported for an array's length, the reported length is right.
+/// Proves that if no fault is reported for an array's length, the reported length is the value of the length's
+/// expression.
 pub fn lengths_fit()
     ensures { LengthsFit Name }
 {}
 
-/// Proves that statements fit if no fault is reported for them.
+/// Proves that statements are well-typed if no fault is reported for them.
 pub fn statements_fit()
     ensures { StatementsFit Name }
 {}
 
-/// Proves that if the table of arrays and records agrees with their shapes, each type agrees with its shape.
+/// Proves that if each array and record in the table agrees with its shape, every type agrees with its shape.
 pub fn types_of_tables()
     ensures { TypesOfTables }
 {}
 
-/// Proves that a module fits if no fault of types and no undeclared name is reported for it.
+/// Proves that a module is well-typed if no fault of types and no undeclared name is reported for it.
 pub fn modules_fit()
     ensures { ModulesFit }
 {}

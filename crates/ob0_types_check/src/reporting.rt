@@ -89,6 +89,7 @@ struct Wanted<'b> {
 }
 
 impl<'b> Wanted<'b> {
+    /// Returns true if the body with this closing name is to be walked.
     fn wants(&self, closing: usize) -> bool
         ensures { result ≡ wants self.now closing }
     {
@@ -191,6 +192,8 @@ struct Reporter<'t> {
 }
 
 impl<'t> Reporter<'t> {
+    /// Returns the state at the start of a module. Only the predeclared names have a meaning, and only the undeclared
+    /// names are reported.
     fn new(alloc: Global, resolved: &'t Resolved<'t>) -> Result<Reporter<'t>, AllocError>
         ensures supposed { IfOk result (λ t. so_far_in t.supposed ≡ at_first resolved.now) }
         ensures faults { IfOk result

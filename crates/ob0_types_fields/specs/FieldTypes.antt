@@ -23,8 +23,9 @@ use Rattle.ob0_types_fields.specs.Owned.{token_objects}
 abbrev pub first_listed : {N : Type 0} → Tree N names → N
 first_listed (listed x rest) = x
 
--- Returns the types that the words ARRAY and RECORD of a tree construct, in text order. `t` is the type that the tree
--- denotes or is a part of. Names that are declared together have the same type.
+-- Returns the types that the words ARRAY and RECORD of a tree construct, in text order, with None
+-- for an unknown type. The second argument is the type that the tree denotes or is a part of. Names
+-- that are declared together have the same type.
 abbrev pub constructed : {N P : Type 0} {s : Sort}
     → Meanings N Shape P
     → Option Shape
@@ -71,14 +72,14 @@ pub record TypedField : Type 0 where
   pub field : FieldOf
   pub shape : Shape
 
--- returns the field with this name in a type; None if there is none
+-- returns the field with this name in a type, with its own type; None if there is no such field
 abbrev pub typed_field_named : Shape → Name → Option TypedField
 typed_field_named s x =
     option_and_then (λ f. option_map (λ t. record { field = f; shape = t }) (field_type s x))
     (field_selected s x)
 
--- returns the field of an identifier, according to the objects of declarations; it is looked up in the RECORD that
--- declares it
+-- returns the field that an identifier belongs to, with its type; it is looked up in the RECORD
+-- that declares it, given the objects of declarations
 abbrev pub typed_field_by : (ℕ → Option (Object Shape Signature))
     → Resolution
     → FieldName
@@ -87,11 +88,12 @@ typed_field_by objects r x =
     option_and_then (λ s. typed_field_named s (text_at r.module_read.source x.token))
     (constructed_by objects r x.owner)
 
--- returns the field of an identifier of a module; None if it isn't found
+-- returns the field that an identifier of a module belongs to, with its type; None if it isn't
+-- found
 abbrev pub typed_field : Resolution → FieldName → Option TypedField
 typed_field r x = typed_field_by (declared_object (named_tree_of r.module_read)) r x
 
--- The field of each identifier in a well-typed module has a type.
+-- For each field identifier of a well-typed module, the search finds the field and its type.
 abbrev pub FieldsTyped : Type 0
 FieldsTyped =
     (r : Resolution) → IsResolution r → WellTyped (named_tree_of r.module_read)

@@ -50,7 +50,7 @@ field_on source offset (x ∷ xs) =
 abbrev pub tokens_of : List FieldName → List ℕ
 tokens_of xs = map (λ x. x.token) xs
 
--- Holds if the tokens of the identifiers ascend and are tokens of the text.
+-- Holds if the tokens of the identifiers are tokens of the text, in strictly ascending order.
 abbrev pub AreInTextOrder : Scanned → List FieldName → Type 0
 AreInTextOrder source xs = Ascending 0 (tokens_of xs) (length source.tokens)
 
@@ -58,7 +58,7 @@ AreInTextOrder source xs = Ascending 0 (tokens_of xs) (length source.tokens)
 abbrev pub field_at : Resolution → ℕ → Option FieldName
 field_at r offset = field_on r.module_read.source offset (field_identifiers r)
 
--- ---- declaring identifiers
+-- ---- declaring identifiers; `k` is the ordinal of the first ARRAY or RECORD of the part
 
 abbrev mutual
   -- returns the fields that the declarations of a block declare; `k` is the ordinal of its first ARRAY or RECORD
@@ -128,7 +128,8 @@ DuplicateByToken =
     → is_duplicate_field (named_tree_of m) k f new
     ≡ (not (same_name new f) && is_some (declaring_field m k new))
 
--- The field of each identifier in a well-typed module is declared by its record.
+-- Some token declares the field that each identifier of a well-typed module belongs to, in that
+-- identifier's record.
 abbrev pub FieldsDeclared : Type 0
 FieldsDeclared =
     (r : Resolution) → IsResolution r → WellTyped (named_tree_of r.module_read)
@@ -136,7 +137,8 @@ FieldsDeclared =
     (λ x. is_some (declaring_field r.module_read x.owner (text_at r.module_read.source x.token))
     ≡ true) (field_identifiers r)
 
--- returns the tokens of the identifiers in the places of fields, which are declared in a record or selected
+-- returns the tokens of the identifiers that the grammar has in the places of fields: declared in a
+-- record, or selected
 abbrev pub written_fields : List (Role × ℕ) → List ℕ
 written_fields [] = []
 written_fields ((role.FieldName, token) ∷ rest) = token ∷ written_fields rest
@@ -145,7 +147,8 @@ written_fields ((role.LookedUp, token) ∷ rest) = written_fields rest
 written_fields ((role.ClosingName, token) ∷ rest) = written_fields rest
 written_fields ((role.ModuleName, token) ∷ rest) = written_fields rest
 
--- The list of fields of a well-typed module has exactly the identifiers in the places of fields, in text order.
+-- The fields of a well-typed module are exactly the identifiers that the grammar has in the places
+-- of fields, in text order.
 abbrev pub FieldsListed : Type 0
 FieldsListed =
     (r : Resolution) → IsResolution r → WellTyped (named_tree_of r.module_read)

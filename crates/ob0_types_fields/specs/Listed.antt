@@ -12,16 +12,17 @@ use Rattle.ob0_types_fields.specs.declared.field_name.FieldName.{FieldName}
 use Rattle.ob0_types_fields.specs.Identifiers.{declared_fields, field_identifiers, tokens_of}
 use Rattle.ob0_types_fields.specs.Owned.{marked_module, token_objects}
 
--- the identifiers of fields: the declaring identifiers, and all identifiers
+-- the identifiers of a module's fields: those that declare a field (`declared`), and all of them
+-- (`all`)
 pub record Listed : Type 0 where
   pub declared : List FieldName
   pub all : List FieldName
 
--- returns all fields, or an empty list if no field is declared
+-- returns the list `all` if a field is declared, otherwise an empty list
 abbrev pub if_declared : List FieldName → List FieldName → List FieldName
 if_declared declared all = if length declared == 0 then [] else all
 
--- returns the lists that the code's walks make, from a table with the object of each declaration
+-- returns the lists that the code's walks make, given the table with the object of each declaration
 abbrev pub listed_by : Tables → Resolution → Listed
 listed_by t r = record {
   declared = declared_fields r.module_read;
@@ -30,17 +31,18 @@ listed_by t r = record {
       (marked_module (token_objects (declared_in t) r) (tree_of r.module_read));
 }
 
--- holds if the lists have the fields of a module
+-- holds if the two lists have the fields that the module declares, and all identifiers of its
+-- fields
 abbrev pub AreFields : Resolution → Listed → Type 0
 AreFields r f = (f.declared ≡ declared_fields r.module_read) × (f.all ≡ field_identifiers r)
 
--- returns a list whose items from a position onwards are overwritten by other items
+-- returns a list whose items starting at index `k` are overwritten by other items
 abbrev pub written_over : List FieldName → ℕ → List FieldName → List FieldName
 written_over xs k [] = xs
 written_over xs k (y ∷ ys) = written_over (set xs k y) (k + 1) ys
 
--- Holds if a list of fields is in text order and can be split into `before`, other fields and `after`. The other fields
--- are at the same tokens as the fields in `others`.
+-- Holds if `all` consists of `before`, some old fields and `after`, and its tokens ascend. The old
+-- fields are at the same tokens as the fields in `others`.
 pub record HasOthersWithin (all before others after : List FieldName) : Type 0 where
   pub old : List FieldName
   pub top : ℕ
@@ -56,14 +58,15 @@ fields_before token xs = filter (λ x. nat_lt x.token token) xs
 abbrev pub fields_from : ℕ → List FieldName → List FieldName
 fields_from token xs = filter (λ x. nat_le token x.token) xs
 
--- returns the new index of a token that wasn't replaced, at most 2^64 - 1
+-- returns the new index of a token after a change, if the change kept this token; at most 2^64 - 1
 abbrev pub place_now : SameTokens → ℕ → ℕ
 place_now s i = min (moved s i) (2 ^ 64 - 1)
 
--- returns a field's identifier at its new index
+-- returns a field's identifier with the new index of its token
 abbrev pub field_now : SameTokens → FieldName → FieldName
 field_now s x = record { token = place_now s x.token; owner = x.owner }
 
--- returns the old index of a token after the replaced tokens, at most 2^64 - 1
+-- returns the old index of a token that lies after the changed tokens, given its new index; at most
+-- 2^64 - 1
 abbrev pub place_before : SameTokens → ℕ → ℕ
 place_before s i = min (i - s.new_suffix + s.old_suffix) (2 ^ 64 - 1)

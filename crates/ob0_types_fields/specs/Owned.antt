@@ -20,15 +20,16 @@ use Rattle.ob0_language_values.specs.Values.{Shape, integer_shape}
 use Rattle.ob0_types_fields.specs.declared.field_name.FieldName.{FieldName}
 use Rattle.ob0_types_fields.specs.Owners.{AreOwners}
 
--- returns identifiers without an owner
+-- returns identifiers with None as the owner of each
 abbrev pub unowned_among : List (Role × ℕ) → List (ℕ × Option ℕ)
 unowned_among xs = map (λ x. (x.1, None)) xs
 
--- returns the identifiers of a part that has no fields
+-- returns the identifiers of a part of the tree that has no fields, with None as the owner of each
 abbrev pub unowned : {s : Sort} → Tree ℕ s → List (ℕ × Option ℕ)
 unowned t = unowned_among (identifiers role.Declaring t)
 
--- returns the type of a designator after one more selector
+-- returns the type of a designator after one more selector, given the type `s` before it; None if
+-- it has no type
 abbrev pub after_selector : {P : Type 0} {i : Item}
     → Meanings ℕ Shape P
     → Option Shape
@@ -38,12 +39,14 @@ after_selector m s (field x) = option_and_then (λ t. field_type t (m.written x)
 after_selector m s (index e) = option_and_then (λ t. element_type t integer_shape) s
 after_selector m s _ = s
 
--- returns the ordinal of the record whose field a name selects
+-- returns the ordinal of the record whose field the name `x` selects, given the type before the
+-- selector; None if there is none
 abbrev pub owner : Option Shape → Name → Option ℕ
 owner None x = None
 owner (Some s) x = option_map (λ f. f.ordinal) (field_selected s x)
 
--- returns the identifiers of a part of a statement with their owners; `s` is the type before the selectors
+-- Returns the identifiers of a statement or a part of one, with their owners. The second argument
+-- is the type before the selectors, if the part is a list of selectors.
 abbrev pub owned : {P : Type 0} {s : Sort}
     → Meanings ℕ Shape P
     → Option Shape
@@ -99,46 +102,53 @@ abbrev mutual
   owned_group r k no_fields = []
   owned_group r k (some_fields ns t) = map (λ x. (x, Some r)) (names_listed ns) ++ owned_type k t
 
-  -- returns the identifiers of further groups of fields of the record `r`
+  -- returns the identifiers of further groups of fields of the record `r`, with their owners
   pub owned_groups : ℕ → ℕ → Tree ℕ (items further_fields) → List (ℕ × Option ℕ)
   owned_groups r k end = []
   owned_groups r k (more (then_fields g) rest) =
       owned_group r k g ++ owned_groups r (k + group_constructors g) rest
 
--- returns the identifiers of type declarations
+-- returns the identifiers of type declarations with their owners; `k` is the ordinal of their first
+-- ARRAY or RECORD
 abbrev pub owned_types : ℕ → Tree ℕ (items type_name) → List (ℕ × Option ℕ)
 owned_types k end = []
 owned_types k (more (declares_type x u) ds) =
     (x, None) ∷ (owned_type k u ++ owned_types (k + constructors u) ds)
 
--- returns the identifiers of a TYPE section
+-- returns the identifiers of a TYPE section with their owners; `k` is the ordinal of its first
+-- ARRAY or RECORD
 abbrev pub owned_type_section : ℕ → Tree ℕ (maybe type_names) → List (ℕ × Option ℕ)
 owned_type_section k none = []
 owned_type_section k (one (declares_types ts)) = owned_types k ts
 
--- returns the identifiers of variable declarations
+-- returns the identifiers of variable declarations with their owners; `k` is the ordinal of their
+-- first ARRAY or RECORD
 abbrev pub owned_variables : ℕ → Tree ℕ (items variable) → List (ℕ × Option ℕ)
 owned_variables k end = []
 owned_variables k (more (declares_variable ns u) gs) =
     (unowned ns ++ owned_type k u) ++ owned_variables (k + constructors u) gs
 
--- returns the identifiers of a VAR section
+-- returns the identifiers of a VAR section with their owners; `k` is the ordinal of its first ARRAY
+-- or RECORD
 abbrev pub owned_variable_section : ℕ → Tree ℕ (maybe variables) → List (ℕ × Option ℕ)
 owned_variable_section k none = []
 owned_variable_section k (one (declares_variables vs)) = owned_variables k vs
 
--- returns the identifiers of a section of parameters
+-- returns the identifiers of a section of parameters with their owners; `k` is the ordinal of its
+-- first ARRAY or RECORD
 abbrev pub owned_section : ℕ → Tree ℕ section → List (ℕ × Option ℕ)
 owned_section k (value_section ns u) = unowned ns ++ owned_type k u
 owned_section k (variable_section ns u) = unowned ns ++ owned_type k u
 
--- returns the identifiers of further sections of parameters
+-- returns the identifiers of further sections of parameters with their owners; `k` is the ordinal
+-- of their first ARRAY or RECORD
 abbrev pub owned_sections : ℕ → Tree ℕ (items further_section) → List (ℕ × Option ℕ)
 owned_sections k end = []
 owned_sections k (more (then_section f) fs) =
     owned_section k f ++ owned_sections (k + constructors (section_type f)) fs
 
--- returns the identifiers of formal parameters
+-- returns the identifiers of formal parameters with their owners; `k` is the ordinal of their first
+-- ARRAY or RECORD
 abbrev pub owned_formals : ℕ → Tree ℕ (maybe formals) → List (ℕ × Option ℕ)
 owned_formals k none = []
 owned_formals k (one no_formals) = []
@@ -185,8 +195,8 @@ abbrev pub owned_module : {P : Type 0}
     → List (ℕ × Option ℕ)
 owned_module m (is_module x b closing) = (x, None) ∷ (owned_block m 0 b ++ ((closing, None) ∷ []))
 
--- Returns the meanings of the names at tokens. Each name is bound to one declaration and has the object of that
--- declaration.
+-- Returns the meanings of names; each name is given by its token. `objects` gives the object of
+-- each ordinal. A token that isn't bound has no object.
 abbrev pub token_objects : (ℕ → Option (Object Shape Signature))
     → Resolution
     → Meanings ℕ Shape Signature
@@ -203,13 +213,14 @@ owned_tokens r =
     owned_module (token_objects (declared_object (named_tree_of r.module_read)) r)
     (tree_of r.module_read)
 
--- holds if a table has the listed owner at each token
+-- holds if the table gives each listed token the owner that the list has for it
 abbrev pub HasOwners : (ℕ → Option ℕ) → List (ℕ × Option ℕ) → Type 0
 HasOwners table [] = Unit {0}
 HasOwners table (x ∷ xs) = (table x.0 ≡ x.1) × HasOwners table xs
 
--- A table that has the listed owners at the tokens of a well-typed module is a table of its owners. The reason is that
--- at each place the environment gives a name the object of its declaration.
+-- A table that has the listed owners at the tokens of a well-typed module has the owners of all its
+-- fields. The reason is that at each place the environment gives a name the object of its
+-- declaration.
 abbrev pub OwnersByDeclaration : Type 0
 OwnersByDeclaration =
     (r : Resolution) (owners : List (Option ℕ))
@@ -224,13 +235,13 @@ fields_among [] = []
 fields_among ((x, None) ∷ xs) = fields_among xs
 fields_among ((x, Some k) ∷ xs) = record { token = x; owner = k } ∷ fields_among xs
 
--- returns a table in which these fields are entered
+-- returns the table with the owners of these fields entered at their tokens
 abbrev pub with_fields_at : List (Option ℕ) → List FieldName → List (Option ℕ)
 with_fields_at table [] = table
 with_fields_at table (f ∷ fs) = with_fields_at (set table f.token (Some f.owner)) fs
 
--- Entering the fields of a well-typed module in the empty table, which has one entry per token, gives a table of its
--- owners.
+-- Entering the fields of a well-typed module in the empty table gives a table with the owners of
+-- all its fields. The empty table has one entry per token.
 abbrev pub OwnersOfFields : Type 0
 OwnersOfFields =
     (r : Resolution)
@@ -239,9 +250,9 @@ OwnersOfFields =
     → AreOwners r.module_read (with_fields_at (replicate (length r.module_read.source.tokens) None)
     (fields_among (owned_tokens r)))
 
--- ---- only the fields, in the form that the code's walk finds
+-- ---- the fields without the other identifiers, computed as the code's walk finds them
 
--- returns a list of one field if the identifier has an owner, otherwise an empty list
+-- returns a list of one field if the identifier at token `x` has an owner, otherwise an empty list
 abbrev pub marked_field : ℕ → Option ℕ → List FieldName
 marked_field x None = []
 marked_field x (Some k) = record { token = x; owner = k } ∷ []
@@ -321,19 +332,22 @@ abbrev mutual
   marked_groups r k (more (then_fields g) rest) =
       marked_group r k g ++ marked_groups r (k + group_constructors g) rest
 
--- returns the fields that type declarations declare
+-- returns the fields that type declarations declare; `k` is the ordinal of their first ARRAY or
+-- RECORD
 abbrev pub marked_types : ℕ → Tree ℕ (items type_name) → List FieldName
 marked_types k end = []
 marked_types k (more (declares_type x u) ds) =
     marked_type k u ++ marked_types (k + constructors u) ds
 
--- returns the fields that variable declarations declare
+-- returns the fields that variable declarations declare; `k` is the ordinal of their first ARRAY or
+-- RECORD
 abbrev pub marked_variables : ℕ → Tree ℕ (items variable) → List FieldName
 marked_variables k end = []
 marked_variables k (more (declares_variable ns u) gs) =
     marked_type k u ++ marked_variables (k + constructors u) gs
 
--- returns the fields that sections of parameters declare
+-- returns the fields that sections of parameters declare; `k` is the ordinal of their first ARRAY
+-- or RECORD
 abbrev pub marked_sections : ℕ → Tree ℕ (items further_section) → List FieldName
 marked_sections k end = []
 marked_sections k (more (then_section f) fs) =
@@ -349,7 +363,8 @@ abbrev mutual
       ++ marked_procedures m (after_variables k (has_body (declares cs ts vs ps) statements)) ps))
       ++ marked_tree m statements
 
-  -- returns the fields that procedures declare and select, in text order
+  -- returns the fields that procedures declare and select, in text order; `k` is the ordinal of
+  -- their first ARRAY or RECORD
   pub marked_procedures : {P : Type 0}
       → Meanings ℕ Shape P
       → ℕ
@@ -359,7 +374,8 @@ abbrev mutual
   marked_procedures m k (more p rest) =
       marked_procedure m k p ++ marked_procedures m (k + procedure_constructors p) rest
 
-  -- returns the fields of a procedure: its parameters' fields, then its block's fields
+  -- returns the fields of a procedure: its parameters' fields, then its block's fields; `k` is the
+  -- ordinal of its first ARRAY or RECORD
   pub marked_procedure : {P : Type 0}
       → Meanings ℕ Shape P
       → ℕ
@@ -373,7 +389,7 @@ abbrev mutual
 abbrev pub marked_module : {P : Type 0} → Meanings ℕ Shape P → Tree ℕ module_text → List FieldName
 marked_module m (is_module x b closing) = marked_block m 0 b
 
--- The walk finds exactly the fields among a module's identifiers.
+-- The walk finds exactly the identifiers of a module that have an owner.
 abbrev pub MarkedFields : Type 0
 MarkedFields =
     (r : Resolution)

@@ -11,7 +11,8 @@ use Rattle.ob0_language_names.specs.Scopes.{same_ordinal}
 use Rattle.ob0_language_fields.specs.Fields.{FieldNames, refielded}
 use Rattle.ob0_language_fields.specs.Renaming.{field_renamed}
 
--- rewrites a field's name if its record is known
+-- Returns the name that `l` gives to a field of the record with ordinal `k`. If the record isn't
+-- known, the name is unchanged.
 abbrev pub of_records : (ℕ → Name → Name) → FieldNames
 of_records l None x = x
 of_records l (Some k) x = l k x
@@ -30,7 +31,8 @@ abbrev pub is_of_field : Scanned → List (Option ℕ) → ℕ → Name → ℕ 
 is_of_field source owners r f i =
     same_ordinal (ordinal_in owners i) r && same_name (text_at source i) f
 
--- Renaming a field gives the tree with the new name at the tokens of that field.
+-- Renaming a field changes exactly the names at the field's tokens, given a table with the record
+-- of each field token.
 abbrev pub RenamedByToken : Type 0
 RenamedByToken =
     (m : Parsed) (owners : List (Option ℕ)) (r : ℕ) (f new : Name) → AreOwners m owners

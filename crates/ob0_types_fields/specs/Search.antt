@@ -34,23 +34,24 @@ abbrev pub found_type : SearchState → Option Shape
 found_type (is_found found) = found
 found_type (is_after n) = None
 
--- returns the meanings of names according to the table of the walk
+-- returns the meanings of names according to the walk's table; each name is given by its token
 abbrev pub meanings_in : ConstructorWalk → Meanings ℕ Shape Signature
 meanings_in w = token_objects (declared_in w.known.now) w.resolved.now
 
--- returns the shape of a type of the code, if there is a type
+-- returns the shape of a type of the walk's table; for None, returns None
 abbrev pub type_in : ConstructorWalk → Option TypeId → Option Shape
 type_in w of = option_map (type_shape (shapes_of w.known.now)) of
 
--- returns a search of the code as one of the definitions
+-- returns a search of the code as a search of the definitions, given the shapes of the arrays and
+-- records
 abbrev pub search_in : List Shape → Search → SearchState
 search_in shapes (search.Found of) = is_found (option_map (type_shape shapes) of)
 search_in shapes (search.Before n) = is_after n
 
--- returns a search of the walk as one of the definitions
+-- returns a search of the code as a search of the definitions, with the shapes of the walk's table
 abbrev pub sought_in : ConstructorWalk → Search → SearchState
 sought_in w s = search_in (shapes_of w.known.now) s
 
--- returns a field of the code, with its type as a shape
+-- returns a field of the code, with its type as a shape, given the shapes of the arrays and records
 abbrev pub typed_field_in : List Shape → code.TypedField → TypedField
 typed_field_in shapes f = record { field = f.field; shape = type_shape shapes f.of }

@@ -13,7 +13,8 @@ use Rattle.ob0_types_fields.specs.declared.field_name.FieldName.{FieldName}
 use Rattle.ob0_types_fields.specs.declared.owning.Owning.{Owning}
 use Rattle.ob0_types_fields.specs.Owned.{marked_field, marked_tree, owner, token_objects}
 
--- returns the meanings of identifiers at tokens, according to the table of declarations
+-- returns the meanings of names according to the walk's table of declarations; each name is given
+-- by its token
 abbrev pub meaning_in : Owning → Meanings ℕ Shape Signature
 meaning_in w = token_objects (declared_in w.known.now) w.resolved.now
 
@@ -21,7 +22,8 @@ meaning_in w = token_objects (declared_in w.known.now) w.resolved.now
 abbrev pub record_shape_in : Owning → RecordShape → Shape
 record_shape_in w r = made_shape (shapes_of w.known.now) (made.Record r)
 
--- returns the fields that one selector selects from a value of type `s`
+-- returns the fields that one selector selects, given the type `s` before it; an index has the
+-- fields of its expression
 abbrev pub marked_at : {P : Type 0}
     → Meanings ℕ Shape P
     → Option Shape

@@ -74,7 +74,8 @@ enum Search {
 }
 
 impl Search {
-    /// Returns the search after one more ARRAY or RECORD, which constructs the type `of`.
+    /// Returns the search after one more word ARRAY or RECORD, which constructs the type `of`, or an unknown type if
+    /// `of` is None.
     fn pass(self, of: Option<TypeId>) -> Search
         ensures { (shapes : List Shape)
             → search_in shapes result
@@ -129,7 +130,8 @@ impl<'a, 't> ConstructorWalk<'a, 't> {
             .field_type(of?, text_at(self.resolved.tokens(), name))
     }
 
-    /// Returns the search after a written type that denotes the type `of`.
+    /// Returns the search after the words ARRAY and RECORD of a written type. `of` is the type that this written type
+    /// denotes, or None if it is unknown.
     #[cycle(types)]
     fn written_type(&self, search: Search, of: Option<TypeId>, t: &WrittenType) -> Search
         ensures { sought_in self.now result
@@ -145,6 +147,8 @@ impl<'a, 't> ConstructorWalk<'a, 't> {
         }
     }
 
+    /// Returns the search after the word RECORD of a record type and the words inside it. `of` is the record's type, or
+    /// None if it is unknown.
     #[cycle(types)]
     fn record(&self, search: Search, of: Option<TypeId>, r: &RecordType) -> Search
         ensures { sought_in self.now result
@@ -158,6 +162,8 @@ impl<'a, 't> ConstructorWalk<'a, 't> {
         search
     }
 
+    /// Returns the search after the types of a group of fields. `of` is the type of the record, or None if it is
+    /// unknown.
     #[cycle(types)]
     fn fields(&self, search: Search, of: Option<TypeId>, f: &Fields) -> Search
         ensures { sought_in self.now result
@@ -218,6 +224,7 @@ impl<'a, 't> ConstructorWalk<'a, 't> {
         search
     }
 
+    /// Returns the search after the type of one section of parameters.
     fn section(&self, search: Search, s: &Section) -> Search
         ensures { sought_in self.now result
             ≡ after_all (sought_in self.now search)
@@ -226,7 +233,7 @@ impl<'a, 't> ConstructorWalk<'a, 't> {
         self.written_type(search, self.declared_type(s.names.first), &s.written)
     }
 
-    /// Returns the search after all declarations of a block and its procedures.
+    /// Returns the search after all declarations of a block, including its procedures.
     #[cycle(blocks)]
     fn block(&self, search: Search, b: &Block) -> Search
         ensures { sought_in self.now result

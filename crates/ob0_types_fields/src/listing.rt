@@ -105,9 +105,9 @@ impl FieldList {
         Ok(FieldList { declared, all })
     }
 
-    /// Returns the lists after the statements of one body were replaced. Fields before the body's first identifier are
-    /// kept, the fields in the new statements are found, and fields from the block's closing name onwards are moved.
-    /// `place` is the place of the new body. Token indexes saturate at the largest value.
+    /// Returns the lists after the statements of one body were replaced. `place` is the place of the new body. Fields
+    /// before the body's first identifier are kept, and fields from the block's closing name onwards are moved. The
+    /// fields in the new statements are found. Token indexes are at most 2^64 - 1.
     pub fn with_new_body<'a, 't>(
         self,
         alloc: Global,
@@ -177,7 +177,7 @@ impl FieldList {
     }
 }
 
-/// Replaces the fields of a list at the tokens of the fields in `found` by these.
+/// Replaces a run of fields in a list by `found`. The replaced fields are at the same tokens as the fields in `found`.
 fn write_at_tokens(all: &mut FieldTokens, found: &[FieldName])
     ensures { (before after : List FieldName) → HasOthersWithin all.old.items before found.now after
         → all.new.items ≡ before ++ (found.now ++ after) }
@@ -200,8 +200,8 @@ fn count_before(all: &[FieldName], token: usize) -> usize
     all.partition_point(|field| field.token < token)
 }
 
-/// Overwrites the fields of a list, starting at a position, by other fields. Fields that would go beyond its end are
-/// ignored.
+/// Overwrites the fields of a list by other fields, starting at the index `start`. Fields that would lie after the end
+/// of the list are ignored.
 fn write_over(all: &mut FieldTokens, start: usize, found: &[FieldName])
     ensures { all.new.items ≡ written_over all.old.items start found.now }
 {
@@ -214,7 +214,7 @@ fn write_over(all: &mut FieldTokens, start: usize, found: &[FieldName])
     }
 }
 
-/// Returns the new index of a token that wasn't replaced, at most the largest value.
+/// Returns the new index of a token after a change, if the change kept this token. The index is at most 2^64 - 1.
 fn place_now(token: usize, same: SameTokens) -> usize
     ensures { result ≡ place_now same token }
 {
@@ -227,7 +227,8 @@ fn place_now(token: usize, same: SameTokens) -> usize
     }
 }
 
-/// Returns the old index of a token after the replaced tokens, at most the largest value.
+/// Returns the old index of a token that lies after the changed tokens, given its new index. The result is at most 2^64
+/// - 1.
 fn place_before(token: usize, same: SameTokens) -> usize
     ensures { result ≡ place_before same token }
 {
@@ -280,7 +281,7 @@ fn declared_fields(alloc: Global, resolved: &Resolved<'_>) -> Result<FieldTokens
     Ok(found)
 }
 
-/// Returns all fields of the module, or none if no field is declared. In that case the walk over the module is skipped.
+/// Returns all fields of the module, or none if `declared` is empty. In that case the walk over the module is skipped.
 fn all_fields<'a, 't>(
     alloc: Global,
     known: &'a DeclarationTable,

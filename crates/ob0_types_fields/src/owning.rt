@@ -35,7 +35,7 @@ pub(crate) struct Owning<'a, 't> {
 
 impl<'a, 't> Owning<'a, 't> {
     /// Returns the type of the variable, parameter or constant that the name at a token is bound to. Returns None if
-    /// the name has another meaning or none.
+    /// the name is unbound or is bound to something else.
     fn value_type(&self, token: usize) -> Option<TypeId>
         ensures { option_map (type_shape (shapes_of self.now.known.now)) result
             ≡ object_type ((meaning_in self.now).object_for token) }
@@ -81,8 +81,8 @@ impl<'a, 't> Owning<'a, 't> {
         }
     }
 
-    /// Appends the field that a name selects from this record, and returns the field's type. The name is looked up only
-    /// once, for the type; the record gives the ordinal. If there is no such field, appends nothing and returns None.
+    /// Appends the field that a name selects from this record, and returns the field's type. If there is no such field,
+    /// appends nothing and returns None.
     fn select_in(
         &self,
         found: &mut FieldTokens,
@@ -196,7 +196,8 @@ impl<'a, 't> Owning<'a, 't> {
         Ok(())
     }
 
-    /// Appends the fields that a selector selects, and returns the type of the designator up to this selector.
+    /// Appends the fields that one selector of a designator selects, and returns the type of the designator up to and
+    /// including this selector. `base` is the type before it.
     #[cycle(expressions)]
     fn selector(
         &self,
@@ -330,8 +331,8 @@ impl<'a, 't> Owning<'a, 't> {
         }
     }
 
-    /// Appends the fields of a block. The fields that its declarations and procedures declare and select come first,
-    /// then the fields that its statements select. `made` counts the words ARRAY and RECORD so far.
+    /// Appends the fields of a block: those that its declarations and procedures declare and select, and then those
+    /// that its statements select. `made` is the number of words ARRAY and RECORD before the block, and then after it.
     #[cycle(blocks)]
     pub(crate) fn block(
         &self,
@@ -353,6 +354,8 @@ impl<'a, 't> Owning<'a, 't> {
         self.body(found, &b.body)
     }
 
+    /// Appends the fields that a procedure declares and selects. `made` is the number of words ARRAY and RECORD before
+    /// the procedure, and then after it.
     #[cycle(blocks)]
     fn procedure(
         &self,

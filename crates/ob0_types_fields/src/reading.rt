@@ -14,9 +14,8 @@ use ob0_scan::{Span, Tokens};
 use ob0_scope_table::{is_written, token_span};
 use std::alloc::{AllocError, Global};
 
-/// Returns the first identifier that contains a place or ends there, as a byte offset. It is found by binary search: in
-/// text order, it is the first identifier that doesn't end before the place, if it contains the place. Returns None if
-/// there is no such identifier.
+/// Returns the first identifier that contains a byte offset or ends there. It is found by binary search: only the first
+/// identifier that doesn't end before the offset can be the result. Returns None if there is no such identifier.
 pub(crate) fn field_on(tokens: &Tokens, offset: usize, found: &[FieldName]) -> Option<FieldName>
     ensures { AreInTextOrder tokens.now found.now → result ≡ field_on tokens.now offset found.now }
 {
@@ -28,7 +27,7 @@ pub(crate) fn field_on(tokens: &Tokens, offset: usize, found: &[FieldName]) -> O
     }
 }
 
-/// Returns the number of identifiers that end before a byte offset.
+/// Returns the number of identifiers in the list that end before a byte offset.
 fn ended_before(tokens: &Tokens, offset: usize, found: &[FieldName]) -> usize
     ensures bound { result ≤ length found.now }
     ensures point { IsNonDecreasingBy (λ x. (span_at tokens.now x.token).end) found.now
@@ -49,6 +48,7 @@ fn if_on(tokens: &Tokens, offset: usize, field: FieldName) -> Option<FieldName>
     }
 }
 
+/// Returns true if the byte offset lies within the span or at its end.
 fn is_on(offset: usize, span: Span) -> bool
     ensures { result ≡ is_on offset span }
 {
@@ -117,6 +117,7 @@ pub(crate) fn first_among(
     None
 }
 
+/// Returns true if the field identifier has this name and belongs to the record with ordinal `owner`.
 fn is_field(tokens: &Tokens, field: FieldName, owner: usize, name: &str) -> bool
     ensures { result ≡ is_field tokens.now owner name.now field }
 {

@@ -14,25 +14,26 @@ use Rattle.ob0_language_types.specs.Selected.{selectors_in}
 abbrev pub designator_parts : Designator → ℕ × Tree ℕ (items selector)
 designator_parts d = ((out-Designator d).name, selectors_in d)
 
--- returns the designator of a factor that is a designator; None for any other factor
+-- returns the name and the selectors of a factor that is a designator; None for any other factor
 abbrev pub designator_of_factor : {N : Type 0}
     → Tree N factor
     → Option (N × Tree N (items selector))
 designator_of_factor (designator x path) = Some (x, path)
 designator_of_factor _ = None
 
--- returns the designator of a term that is only a designator; None for any other term
+-- returns the name and the selectors of a term that is only a designator; None for any other term
 abbrev pub designator_of_term : {N : Type 0} → Tree N term → Option (N × Tree N (items selector))
 designator_of_term (product f end) = designator_of_factor f
 designator_of_term _ = None
 
--- returns the designator of a simple expression that has no sign and no operator; None for any other
+-- returns the name and the selectors of a simple expression without sign and operator that is only
+-- a designator; None for any other
 abbrev pub designator_of_simple : {N : Type 0}
     → Tree N simple
     → Option (N × Tree N (items selector))
 designator_of_simple (sum None t end) = designator_of_term t
 designator_of_simple _ = None
 
--- returns several expressions in order, as trees with labels
+-- returns these expressions in order, as trees with labels
 abbrev pub all_in_labels : Resolution → List Expression → List (Tree Label expression)
 all_in_labels r es = map (λ e. in_labels r (expression_of e)) es

@@ -8,7 +8,7 @@ use Rattle.ob0_types_table.specs.declared.field_table.FirstOfName.{FirstOfName}
 use Rattle.ob0_types_table.specs.declared.known.Field.{Field}
 use Rattle.ob0_types_table.specs.declared.types.TypeId.{TypeId}
 
--- returns the first field with a name; the positions of the fields are counted from `k`
+-- returns the first field with a name; its position is its index in the list plus `k`
 abbrev pub first_from : ℕ → List Field → Name → Option FirstOfName
 first_from k [] x = None
 first_from k (f ∷ fs) x =
@@ -22,11 +22,12 @@ first_field_type [] x = None
 first_field_type (f ∷ fs) x =
     if same_name x (string_bytes f.name) then Some f.of else first_field_type fs x
 
--- holds if a map has the first field of each name, with positions counted from `k`
+-- holds if the map has, for each name, the first field with this name; its position is its index in
+-- the list plus `k`
 pub record IsIndexFrom
     (map : BTreeMap (String Global) FirstOfName) (k : ℕ) (fields : List Field) : Type 0 where
   pub found : (x : Name) → get_by_text map x ≡ first_from k fields x
 
--- holds if the map has the first field of each name, with positions counted from 0
+-- holds if the map has, for each name, the first field with this name, with its index in the list
 abbrev pub IsIndex : BTreeMap (String Global) FirstOfName → List Field → Type 0
 IsIndex map fields = IsIndexFrom map 0 fields

@@ -11,7 +11,7 @@ use Rattle.ob0_types_table.specs.declared.types.TypeId.{TypeId}
 use Rattle.ob0_types_table.specs.declared.types.TypeId.TheVariants as type
 use Rattle.ob0_language_values.specs.Values.{Shape, boolean_shape, integer_shape}
 
--- returns the shape of a type that is given with its parts
+-- returns the shape of a type with its parts, given the shapes of the table's entries
 abbrev pub parts_shape : List Shape → Parts → Shape
 parts_shape shapes parts.Integer = integer_shape
 parts_shape shapes parts.Boolean = boolean_shape

@@ -1,4 +1,4 @@
--- The meaning of the checker's tables: types, shapes and declarations.
+-- The views of the checker's tables in contracts: types, shapes and declarations.
 -- Rule: none; for contracts: what the checker's tables mean.
 use Rattle.std.specs.Prelude.{◌≡◌, ℕ, ◌<◌, Bool, true, false, List, [], ◌∷◌, ◌++◌, map, length, slice_index_or, All, Some, None, Option, string_bytes}
 use Rattle.ob0_language_values.specs.Scalars.{scalar_value}
@@ -41,35 +41,35 @@ type_shape shapes (type.Array i) = only_array (slice_index_or shapes i no_shape)
 type_shape shapes (type.Record i) = only_record (slice_index_or shapes i no_shape)
 type_shape shapes type.Unknown = no_shape
 
--- returns the shapes of a record's fields, in order
+-- returns the shapes of a record's fields, in order, given the shapes of the arrays and records
 abbrev pub fields_shape : List Shape → List Field → FieldShapes
 fields_shape shapes [] = no_field_shape
 fields_shape shapes (f ∷ fs) =
     next_field_shape (string_bytes f.name) (type_shape shapes f.of) (fields_shape shapes fs)
 
--- returns the shape of an entry of the table, given the earlier shapes
+-- returns the shape of an entry of the table, given the shapes of the earlier entries
 abbrev pub made_shape : List Shape → code.TypeEntry → Shape
 made_shape shapes (made.Array a) = array_shape a.ordinal a.length (type_shape shapes a.element)
 made_shape shapes (made.Record r) = record_shape r.ordinal (fields_shape shapes r.fields)
 
--- returns the type of an entry, which has the entry's kind and its index in the table, so no two entries have the same
--- type
+-- returns the type of an entry at index `place` of the table; no two entries have the same type
 abbrev pub type_at : code.TypeEntry → ℕ → TypeId
 type_at (made.Array a) place = type.Array place
 type_at (made.Record r) place = type.Record place
 
--- returns the shapes of a table's entries, each made from earlier ones
+-- returns the shapes `known`, followed by the shapes of these entries, each made from earlier ones
 abbrev pub shapes_from : List Shape → List code.TypeEntry → List Shape
 shapes_from known [] = known
 shapes_from known (m ∷ ms) = shapes_from (known ++ made_shape known m ∷ []) ms
 
--- holds if a type refers only to one of the first `n` entries
+-- holds if a type is INTEGER, BOOLEAN, unknown, or one of the first `n` entries of the table
 abbrev pub IsTypeMade : ℕ → TypeId → Type 0
 IsTypeMade n (type.Array i) = i < n
 IsTypeMade n (type.Record i) = i < n
 IsTypeMade n _ = Unit {0}
 
--- holds if the parts of an entry refer only to the first `n` entries
+-- holds if the types of an array's elements or a record's fields are only among the first `n`
+-- entries of the table
 abbrev pub PartsAreMade : ℕ → code.TypeEntry → Type 0
 PartsAreMade n (made.Array a) = IsTypeMade n a.element
 PartsAreMade n (made.Record r) = All (λ f. IsTypeMade n f.of) r.fields
@@ -79,12 +79,14 @@ abbrev pub CountsParts : code.TypeEntry → Shape → Type 0
 CountsParts (made.Array a) s = (a.scalars ≡ scalars s) × (a.depth ≡ depth s)
 CountsParts (made.Record r) s = (r.scalars ≡ scalars s) × (r.depth ≡ depth s)
 
--- holds if the parts of an array or record were made before it, and it has the size of its shape
+-- holds if the parts of an entry are among the entries with the shapes `shapes`, and it has the
+-- size of its shape
 pub record IsEntry (shapes : List Shape) (m : code.TypeEntry) : Type 0 where
   pub parts : PartsAreMade (length shapes) m
   pub counted : CountsParts m (made_shape shapes m)
 
--- holds if each entry is made from earlier ones
+-- holds if each entry is made from earlier ones; the entries before the list have the shapes
+-- `known`
 abbrev pub AreEntriesInOrder : List Shape → List code.TypeEntry → Type 0
 AreEntriesInOrder known [] = Unit {0}
 AreEntriesInOrder known (m ∷ ms) =
@@ -95,11 +97,11 @@ abbrev pub mode_of : Bool → Mode
 mode_of true = by_place
 mode_of false = by_value
 
--- returns a formal parameter of the table as one of the definitions
+-- returns a formal parameter of the table as a formal parameter of the definitions
 abbrev pub formal_in : List Shape → formal.Formal → Formal
 formal_in shapes f = record { mode = mode_of f.by_place; shape = type_shape shapes f.of }
 
--- returns a standard procedure of the code as one of the definitions
+-- returns a standard procedure of the code as a standard procedure of the definitions
 abbrev pub standard_of : standard.Standard → Standard
 standard_of standards.Read = reads
 standard_of standards.Write = writes

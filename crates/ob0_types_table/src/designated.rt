@@ -19,6 +19,7 @@ pub fn lone_designator(e: &Expression) -> Option<&Designator>
     }
 }
 
+/// Returns the designator of a compound expression that is only a designator. Returns None for any other expression.
 fn designator_of_compound(c: &Compound) -> Option<&Designator>
     ensures { option_map (λ d. designator_parts d.now) result
         ≡ lone_designator (compound_of c.now) }
@@ -29,6 +30,7 @@ fn designator_of_compound(c: &Compound) -> Option<&Designator>
     }
 }
 
+/// Returns the designator of a simple expression that is only a designator. Returns None for any other expression.
 fn designator_of_simple(s: &Simple) -> Option<&Designator>
     ensures { option_map (λ d. designator_parts d.now) result
         ≡ designator_of_simple (simple_of s.now) }

@@ -16,7 +16,7 @@ use std::alloc::{AllocError, Global};
 use std::collections::BTreeMap;
 use std::marker::Model;
 
-/// The position and the type of the first field with some name.
+/// The position of the first field with some name, counted from 0, and its type.
 #[derive(Clone, Copy)]
 struct FirstOfName {
     place: usize,
@@ -43,8 +43,8 @@ impl Model for FieldTable {
     ghost invariant = { λ t. IsIndex t.first_of t.fields.items };
 }
 
-/// Returns a map to the first field of each name. The map is filled starting at the last field, so that the first field
-/// with a name remains.
+/// Returns a map from each name to the first field with this name. The map is filled starting at the last field, so
+/// that the first field with a name remains.
 fn first_of(alloc: Global, fields: &[Field]) -> Result<BTreeMap<String, FirstOfName>, AllocError>
     ensures { IfOk result (λ m. IsIndex m fields.now) }
 {

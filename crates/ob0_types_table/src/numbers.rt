@@ -20,6 +20,7 @@ pub fn number_at(tokens: &Tokens, token: usize) -> i32
     }
 }
 
+/// Returns the value of an integer token, given its kind. Returns 0 for any other kind.
 fn number_of(kind: TokenKind) -> i32
     requires { value_of kind ≤ max_integer }
     ensures { result ≡ pos (value_of kind) }

@@ -1,5 +1,5 @@
-//! Operations on the values of constants. An operand may lack a value. If the left operand settles the operation, the
-//! result is that operand's value, even if the right operand has none.
+//! Operations on the values of constants. An operand may lack a value. If the left operand of OR or `&` settles the
+//! result, that is the result, even if the right operand has no value.
 
 ghost use Rattle.std.specs.Prelude.{◌≡◌, Some, option_and_then, option_map};
 ghost use Rattle.ob0_language_values.specs.Scalars.{scalar_value};
@@ -58,7 +58,8 @@ pub fn complement(operand: Option<Scalar>) -> Option<Scalar>
     }
 }
 
-/// Returns the value of a sum, a difference or an OR. Returns None if it has no value.
+/// Returns the value of a sum, a difference or an OR. Returns None if the operation has no value, for example because
+/// an operand it needs has none or it overflows.
 pub fn value_of_sum(
     operator: AddOperator,
     left: Option<Scalar>,
@@ -82,7 +83,8 @@ pub fn value_of_sum(
     }
 }
 
-/// Returns the value of a product, a quotient, a remainder or an `&`. Returns None if it has no value.
+/// Returns the value of a product, a quotient, a remainder or an `&`. Returns None if the operation has no value, for
+/// example because an operand it needs has none or it overflows.
 pub fn value_of_product(
     operator: MultiplyOperator,
     left: Option<Scalar>,

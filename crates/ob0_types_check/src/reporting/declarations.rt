@@ -29,6 +29,7 @@ fn add_formals(names: &Names, formal: Formal, formals: &mut Vec<Formal>) -> Resu
 }
 
 impl<'t> Supposed<'t> {
+    /// Records these names as variables of this type.
     fn define_all(&mut self, names: &Names, of: TypeId)
         ensures { so_far_in self.new
             ≡ define_all (so_far_in self.old) (a_variable of)
@@ -42,9 +43,9 @@ impl<'t> Supposed<'t> {
 }
 
 impl<'t> Reporter<'t> {
-    /// Reports the faults of a block: constants, types, variables, procedures, and then the
-    /// statements if they are wanted. `own` is the token of the block's closing name. Appends each
-    /// body with a fault to `faulty`.
+    /// Reports the faults of a block: constants, types, variables, procedures, and then the statements if they are
+    /// wanted. `own` is the token of the block's closing name. Appends the closing name of each walked body with a
+    /// fault to `faulty`.
     #[cycle(blocks)]
     pub(crate) fn block(
         &mut self,
@@ -100,6 +101,8 @@ impl<'t> Reporter<'t> {
         self.block(faulty, wanted, &p.block, p.closing)
     }
 
+    /// If `wanted`, reports the faults of a body, and appends `own`, its block's closing name, to `faulty` if it has
+    /// any.
     fn body_if(
         &mut self,
         faulty: &mut Vec<usize>,
@@ -122,6 +125,7 @@ impl<'t> Reporter<'t> {
         Ok(())
     }
 
+    /// Reports the faults of a body's statements. A missing body has none.
     fn body(&mut self, body: &Option<Vec<Statement>>) -> Result<(), AllocError>
         ensures { OnOk result (ReportsAfter self.old.faults.items self.new.faults.items
             (so_far_in self.new.supposed)
@@ -133,6 +137,7 @@ impl<'t> Reporter<'t> {
         }
     }
 
+    /// Reports the faults of a procedure's heading, declares its parameters as variables, and returns them.
     fn heading(&mut self, sections: &Option<Vec<Section>>) -> Result<Vec<Formal>, AllocError>
         ensures { IfOk result (λ formals. ReportsAfter self.old.faults.items self.new.faults.items
             (heading_in self.new.supposed formals.items) (reported_sections
@@ -144,6 +149,7 @@ impl<'t> Reporter<'t> {
         Ok(formals)
     }
 
+    /// Reports the faults of the sections of a heading, if there are any. Appends their parameters to `formals`.
     fn sections_of(
         &mut self,
         sections: &Option<Vec<Section>>,
@@ -160,6 +166,7 @@ impl<'t> Reporter<'t> {
         }
     }
 
+    /// Reports the faults of these sections of a heading, and appends their parameters to `formals`.
     fn sections(
         &mut self,
         sections: &[Section],
@@ -176,6 +183,7 @@ impl<'t> Reporter<'t> {
         Ok(())
     }
 
+    /// Reports the faults of the type of one section, and appends a parameter of this type for each of its names.
     fn section(&mut self, s: &Section, formals: &mut Vec<Formal>) -> Result<(), AllocError>
         ensures { OnOk result (ReportsAfter self.old.faults.items self.new.faults.items
             (heading_in self.new.supposed formals.new.items) (reported_section

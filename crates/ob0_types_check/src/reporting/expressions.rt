@@ -30,11 +30,12 @@ pub(crate) struct Operand {
     pub(crate) value: Option<Scalar>,
     /// True if the expression is only a name with selectors, and the name isn't a constant's.
     pub(crate) is_place: bool,
-    /// The index of the expression's first token. The next field is the index of its last token.
+    /// The index of the expression's first token. `last` is the index of its last token.
     pub(crate) first: usize,
     pub(crate) last: usize,
 }
 
+/// Returns the type that `+`, `-` or OR requires of both operands.
 fn required_by_add(operator: AddOperator) -> TypeId
     ensures { result ≡ required_by_add (known_types []) operator }
 {
@@ -45,6 +46,7 @@ fn required_by_add(operator: AddOperator) -> TypeId
     }
 }
 
+/// Returns the type that `*`, DIV, MOD or `&` requires of both operands.
 fn required_by_multiply(operator: MultiplyOperator) -> TypeId
     ensures { result ≡ required_by_multiply (known_types []) operator }
 {
@@ -71,6 +73,8 @@ fn required_by_relation(relation: Relation, left: TypeId) -> TypeId
     }
 }
 
+/// Returns the type that `=` or `#` requires of both operands: INTEGER for a number on the left, unknown for an unknown
+/// type there, otherwise BOOLEAN.
 fn required_by_equality(left: TypeId) -> TypeId
     ensures { result ≡ required_by_equality (known_types []) left }
 {
@@ -97,6 +101,7 @@ fn truth_of(operands: TypeId) -> TypeId
     }
 }
 
+/// Returns true if the types are equal. Two arrays or records are equal if they have the same index in the list.
 pub(crate) fn same_type(a: TypeId, b: TypeId) -> bool
     ensures { result ≡ same_type a b }
 {
@@ -123,7 +128,7 @@ fn agreed_type(of: TypeId, wanted: TypeId) -> TypeId
 }
 
 impl Operand {
-    /// Returns the operand for a sign or `~` with the operand after it.
+    /// Returns the operand for a sign or `~` applied to this operand, with the type `of` and this value.
     fn after_sign(self, of: TypeId, value: Option<Scalar>) -> Operand
         ensures { operand_of result
             ≡ after_sign of (option_map scalar_value value) (operand_of self) }
@@ -137,7 +142,7 @@ impl Operand {
         }
     }
 
-    /// Returns the operand for an operation on this operand and the right one.
+    /// Returns the operand for an operation on this operand and the operand `right`, with the type `of` and this value.
     fn with(self, right: Operand, of: TypeId, value: Option<Scalar>) -> Operand
         ensures { operand_of result
             ≡ joint_operand of (option_map scalar_value value) (operand_of self)
@@ -152,7 +157,7 @@ impl Operand {
         }
     }
 
-    /// Returns the operand for the part of this designator that ends at the token `last`.
+    /// Returns the operand for the part of this designator that ends at the token `last`, with the type `of`.
     fn part(self, of: TypeId, last: usize) -> Operand
         ensures { operand_of result ≡ part_of (operand_of self) of last }
     {
@@ -197,8 +202,9 @@ impl<'t> Supposed<'t> {
         Ok(agreed_type(operand.of, wanted))
     }
 
-    /// Requires the same type of both operands of an operation. At most one operand is reported, the left one first.
-    /// Returns the required type if both operands have it, otherwise the unknown type.
+    /// Requires the type `wanted` of both operands of an operation. Reports a mismatch at the left operand, or at the
+    /// right one if the left one has none. Returns the required type if both operands have it, otherwise the unknown
+    /// type.
     fn require_both(
         &self,
         faults: &mut Vec<Fault>,
@@ -260,6 +266,7 @@ impl<'t> Supposed<'t> {
         }
     }
 
+    /// Reports the faults of a relation between two operands, and returns its operand.
     fn relate(
         &self,
         faults: &mut Vec<Fault>,
@@ -296,6 +303,7 @@ impl<'t> Supposed<'t> {
         Ok(so_far)
     }
 
+    /// Reports the faults of `+`, `-` or OR between two operands, and returns the resulting operand.
     fn add(
         &self,
         faults: &mut Vec<Fault>,
@@ -312,6 +320,8 @@ impl<'t> Supposed<'t> {
         Ok(left.with(right, of, value))
     }
 
+    /// Reports the fault of a sign, which requires INTEGER, and returns the signed operand. Without a sign it returns
+    /// the operand unchanged.
     fn sign(
         &self,
         faults: &mut Vec<Fault>,
@@ -349,6 +359,7 @@ impl<'t> Supposed<'t> {
         Ok(so_far)
     }
 
+    /// Reports the faults of `*`, DIV, MOD or `&` between two operands, and returns the resulting operand.
     fn multiply(
         &self,
         faults: &mut Vec<Fault>,
@@ -396,6 +407,7 @@ impl<'t> Supposed<'t> {
         }
     }
 
+    /// Returns the operand of the number at this token.
     fn integer(&self, token: usize) -> Operand
         ensures { operand_of result ≡ a_number (facts_in self.now false) token }
     {
@@ -409,6 +421,7 @@ impl<'t> Supposed<'t> {
         }
     }
 
+    /// Returns the operand of an expression in parentheses, given the operand `inside` them.
     fn in_parentheses(&self, inside: Operand) -> Operand
         ensures { operand_of result ≡ enclosed (facts_in self.now false) (operand_of inside) }
     {
@@ -421,6 +434,7 @@ impl<'t> Supposed<'t> {
         }
     }
 
+    /// Reports the fault of `~`, which requires BOOLEAN, and returns the resulting operand.
     fn complement(&self, faults: &mut Vec<Fault>, operand: Operand) -> Result<Operand, AllocError>
         ensures { IfOk result (λ o. ReportsAfter faults.old.items faults.new.items (operand_of o)
             (complement_operand (facts_in self.now false) (operand_of operand))) }
@@ -429,7 +443,8 @@ impl<'t> Supposed<'t> {
         Ok(operand.after_sign(of, operators::complement(operand.value)))
     }
 
-    /// Returns the operand of a name, and reports a fault if the name doesn't refer to a value.
+    /// Returns the operand of a name that must refer to a value: a constant, or a variable unless `only_constants` is
+    /// true. A type, a procedure or an excluded variable is reported.
     fn value_named(
         &self,
         faults: &mut Vec<Fault>,
@@ -489,6 +504,8 @@ impl<'t> Supposed<'t> {
         Ok(so_far)
     }
 
+    /// Returns the operand of a designator with one more selector, and reports this selector's faults. `base` is the
+    /// operand before it.
     #[cycle(expressions)]
     fn select(
         &self,
@@ -526,6 +543,8 @@ impl<'t> Supposed<'t> {
         Ok(base.part(of, self.token_after(index.last)))
     }
 
+    /// Returns the type of an element of the type `base`, and reports `NotArray` if `base` is known and isn't an array.
+    /// The result is unknown if `index_type` isn't INTEGER.
     fn element(
         &self,
         faults: &mut Vec<Fault>,
@@ -552,6 +571,7 @@ impl<'t> Supposed<'t> {
         }
     }
 
+    /// Reports `NotArray` at the `[` before the index, and returns the unknown type.
     fn no_array(&self, faults: &mut Vec<Fault>, index: Operand) -> Result<TypeId, AllocError>
         ensures { IfOk result (λ t. ReportsAfter faults.old.items faults.new.items t
             (element_in (facts_in self.now false) (operand_of index) type.Integer
@@ -561,6 +581,8 @@ impl<'t> Supposed<'t> {
         Ok(TypeId::Unknown)
     }
 
+    /// Returns the operand of the designator `base` with the field at the token `name`, and reports the faults of the
+    /// selection.
     fn select_field(
         &self,
         faults: &mut Vec<Fault>,
@@ -574,6 +596,8 @@ impl<'t> Supposed<'t> {
         Ok(base.part(of, name))
     }
 
+    /// Returns the type of the field at the token `name` in the type `base`, and reports `NotRecord` or `NoField`. The
+    /// type is then unknown.
     fn field_type(
         &self,
         faults: &mut Vec<Fault>,
@@ -598,6 +622,7 @@ impl<'t> Supposed<'t> {
         }
     }
 
+    /// Reports `NotRecord` at the `.` before the field's name, and returns the unknown type.
     fn no_record(&self, faults: &mut Vec<Fault>, name: usize) -> Result<TypeId, AllocError>
         ensures { IfOk result (λ t. ReportsAfter faults.old.items faults.new.items t
             (field_in (facts_in self.now false) name (form_in [] type.Integer))) }
@@ -620,8 +645,8 @@ impl<'t> Supposed<'t> {
         self.operand_value(faults, constant)
     }
 
-    /// Returns the value of a constant expression, or reports `ConstFault` if its evaluation fails. An expression with
-    /// another fault isn't evaluated; the result is then None.
+    /// Returns the value of a constant expression, or reports `ConstFault` if its evaluation fails. If the expression's
+    /// type is unknown, it isn't evaluated. The result is None in both cases.
     fn operand_value(
         &self,
         faults: &mut Vec<Fault>,
@@ -641,7 +666,8 @@ impl<'t> Supposed<'t> {
     }
 }
 
-/// Returns the operand of a constant's name with this value.
+/// Returns the operand of a constant's name at a token. The constant has this value, or None if its declaration has a
+/// fault.
 fn constant(value: Option<Scalar>, token: usize) -> Operand
     ensures { operand_of result
         ≡ a_constant_name (known_types []) (option_map scalar_value value) token }
@@ -655,6 +681,7 @@ fn constant(value: Option<Scalar>, token: usize) -> Operand
     }
 }
 
+/// Returns the type of a constant with this value, or the unknown type for None.
 fn constant_type(value: Option<Scalar>) -> TypeId
     ensures { result ≡ value_type (known_types []) (option_map scalar_value value) }
 {

@@ -9,7 +9,8 @@ use ob0_scope_table::{READ, WRITE, WRITE_LN};
 use ob0_types_table::{Object, Standard};
 use std::alloc::{AllocError, Global};
 
-/// Returns the objects of declarations with these meanings, in the same order.
+/// Returns the objects of declarations with these meanings, in the same order. A declaration without a meaning has no
+/// object.
 pub(crate) fn objects_of(
     alloc: Global,
     meanings: Vec<Option<Meaning>>,
@@ -24,6 +25,7 @@ pub(crate) fn objects_of(
     Ok(objects)
 }
 
+/// Returns the object of a declaration with this meaning, or None if it has no meaning.
 fn object_if_any(meaning: Option<Meaning>) -> Option<Object>
     ensures { result ≡ option_map table_object meaning }
 {
@@ -33,6 +35,7 @@ fn object_if_any(meaning: Option<Meaning>) -> Option<Object>
     }
 }
 
+/// Returns the object of a declaration with this meaning. A constant without a value becomes `FaultyConstant`.
 fn object_of(meaning: Meaning) -> Object
     ensures { result ≡ table_object meaning }
 {
@@ -47,8 +50,8 @@ fn object_of(meaning: Meaning) -> Object
     }
 }
 
-/// Replaces the objects of Read, Write and WriteLn by the standard procedures. The walk treats these names as
-/// procedures with parameters.
+/// Replaces the objects of Read, Write and WriteLn by standard procedures. During the walk they are ordinary procedures
+/// with parameters, so that their arguments are checked like any others.
 pub(crate) fn define_standards(objects: &mut Vec<Option<Object>>)
     ensures { objects.new.items ≡ with_standards objects.old.items }
 {
@@ -57,6 +60,7 @@ pub(crate) fn define_standards(objects: &mut Vec<Option<Object>>)
     define_standard(objects, WRITE_LN, Standard::WriteLn);
 }
 
+/// Replaces the object with this ordinal by a standard procedure. If there is no such ordinal, nothing changes.
 fn define_standard(objects: &mut Vec<Option<Object>>, ordinal: usize, standard: Standard)
     ensures { objects.new.items
         ≡ slice_set objects.old.items ordinal (Some (kind.Standard standard)) }

@@ -33,6 +33,7 @@ impl<'t> Supposed<'t> {
         Ok(())
     }
 
+    /// Reports the faults of a statement, including the statements inside it.
     #[cycle(statements)]
     fn statement(&self, faults: &mut Vec<Fault>, s: &Statement) -> Result<(), AllocError>
         ensures { OnOk result (faults.new.items
@@ -57,6 +58,7 @@ impl<'t> Supposed<'t> {
         }
     }
 
+    /// Reports the faults of an IF statement with its ELSIF and ELSE parts.
     #[cycle(statements)]
     fn branches(&self, faults: &mut Vec<Fault>, i: &If) -> Result<(), AllocError>
         ensures { OnOk result (faults.new.items
@@ -83,6 +85,7 @@ impl<'t> Supposed<'t> {
         Ok(())
     }
 
+    /// Reports the faults of a condition, which must be BOOLEAN.
     fn condition(&self, faults: &mut Vec<Fault>, e: &Expression) -> Result<(), AllocError>
         ensures { OnOk result (faults.new.items
             ≡ faults.old.items
@@ -126,8 +129,8 @@ impl<'t> Supposed<'t> {
         self.right_side(faults, target.of, &a.value)
     }
 
-    /// Returns the type of the variable that is assigned to. If the name isn't a variable's, that is reported, and the
-    /// type is unknown.
+    /// Returns the type of the variable or parameter that an assignment's name refers to. A name with another meaning
+    /// is reported. Without a known meaning nothing is reported. The type is unknown in both cases.
     fn target_type(&self, faults: &mut Vec<Fault>, token: usize) -> Result<TypeId, AllocError>
         ensures { IfOk result (λ t. ReportsAfter faults.old.items faults.new.items t
             (target_meaning (facts_in self.now false) token)) }
@@ -162,7 +165,8 @@ impl<'t> Supposed<'t> {
         }
     }
 
-    /// Reports the faults of a call, depending on the meaning of its name.
+    /// Reports the faults of a call. If the name is a procedure's, its parameters decide; otherwise the arguments may
+    /// have any type.
     fn report_call(
         &self,
         faults: &mut Vec<Fault>,
@@ -187,6 +191,7 @@ impl<'t> Supposed<'t> {
         }
     }
 
+    /// Reports that a called name isn't a procedure's, and then the faults of the arguments, which may have any type.
     fn no_procedure(
         &self,
         faults: &mut Vec<Fault>,
@@ -254,6 +259,8 @@ impl<'t> Supposed<'t> {
         Ok(())
     }
 
+    /// Reports a mismatch of an argument's operand with its formal parameter. Returns the parameter's type if the
+    /// operand has it, otherwise the unknown type.
     fn pass(
         &self,
         faults: &mut Vec<Fault>,

@@ -43,7 +43,8 @@ pub(crate) fn predeclared_meanings(alloc: Global) -> Result<Vec<Option<Meaning>>
     Ok(meanings)
 }
 
-/// Returns the meaning of a procedure with one INTEGER parameter.
+/// Returns the meaning of a procedure with one INTEGER parameter. `by_place` is true if the parameter is a VAR
+/// parameter.
 fn one_parameter(alloc: Global, by_place: bool) -> Result<Meaning, AllocError>
     ensures { IfOk result
         (λ m. known_meaning m
@@ -108,6 +109,7 @@ impl Size {
         }
     }
 
+    /// Returns true if a type of this size is within the limits on scalars and on depth.
     fn is_within(self) -> bool
         ensures { result ≡ is_within (size_of self) }
     {
@@ -231,6 +233,7 @@ impl<'t> Supposed<'t> {
         }
     }
 
+    /// Records the meaning of the declaration with this ordinal. If there is no such ordinal, nothing changes.
     fn declare(&mut self, ordinal: usize, meaning: Meaning)
         ensures { so_far_in self.new
             ≡ with_declared (so_far_in self.old) (known_meaning meaning) (Some ordinal) }
@@ -253,6 +256,7 @@ impl<'t> Supposed<'t> {
         }
     }
 
+    /// Returns the size of the array or record at this index of the list. A missing one counts as one scalar.
     fn size_made(&self, place: usize) -> Size
         ensures { size_of result ≡ size_at (so_far_in self.now).made (type.Array place) }
     {
@@ -290,8 +294,8 @@ impl<'t> Supposed<'t> {
         }
     }
 
-    /// Returns the ordinal of the next ARRAY or RECORD word, which is inside `around` other such words. Returns an
-    /// error if the number doesn't fit 64 bits.
+    /// Returns the ordinal of the next word ARRAY or RECORD, which is inside `around` such words. Returns an error if
+    /// the number doesn't fit 64 bits.
     pub(crate) fn ordinal_here(&self, around: usize) -> Result<usize, AllocError>
         ensures { MatchResult result (λ n. n ≡ ordinal_here around (so_far_in self.now))
             (λ _. 2 ^ 64 ≤ ordinal_here around (so_far_in self.now)) }

@@ -51,6 +51,7 @@ pub(crate) struct Gathered {
 }
 
 impl Gathered {
+    /// Returns the state in which no field has been found.
     fn new(alloc: Global) -> Gathered
         ensures fields { fields_in result.fields.items ≡ [] }
         ensures size { size_of result.size ≡ no_scalar }
@@ -61,6 +62,7 @@ impl Gathered {
         }
     }
 
+    /// Appends a field. The total size isn't changed.
     fn add(&mut self, alloc: Global, name: &str, of: TypeId) -> Result<(), AllocError>
         ensures fields { OnOk result (fields_in self.new.fields.items
             ≡ fields_in self.old.fields.items ++ record { name = name.now; of = of } ∷ []) }
@@ -90,7 +92,8 @@ fn record_word(groups: &[Fields]) -> usize
 }
 
 impl<'t> Supposed<'t> {
-    /// Returns the type that a name refers to. If the name isn't a type's, that is reported, and the type is unknown.
+    /// Returns the type that a name refers to. A name with another meaning is reported. Without a known meaning nothing
+    /// is reported. The type is unknown in both cases.
     fn type_named(&self, faults: &mut Vec<Fault>, token: usize) -> Result<TypeId, AllocError>
         ensures { IfOk result (λ t. ReportsAfter faults.old.items faults.new.items t
             (type_named (facts_in self.now false) token)) }
@@ -106,6 +109,7 @@ impl<'t> Supposed<'t> {
         }
     }
 
+    /// Reports `WrongKind` at a name that isn't a type's, and returns the unknown type.
     fn no_type(&self, faults: &mut Vec<Fault>, token: usize) -> Result<TypeId, AllocError>
         ensures { IfOk result (λ t. ReportsAfter faults.old.items faults.new.items t
             (type_meant (facts_in self.now false) token (Some (a_variable type.Integer)))) }
@@ -162,6 +166,7 @@ impl<'t> Reporter<'t> {
         }
     }
 
+    /// Reports the faults of an array type and returns the type. It is inside `around` words ARRAY and RECORD.
     #[cycle(types)]
     fn array(&mut self, a: &ArrayType, around: usize) -> Result<TypeId, AllocError>
         ensures { IfOk result
@@ -178,8 +183,8 @@ impl<'t> Reporter<'t> {
         self.make_array(ordinal, size, length, element)
     }
 
-    /// Makes an array type. If the length has a fault (None), the array is unknown as a whole, although its element
-    /// type has been checked. The word ARRAY precedes the length.
+    /// Makes an array type and returns it. If the length has a fault (None), the array's type is unknown, although its
+    /// element type has been checked. The word ARRAY precedes the length.
     fn make_array(
         &mut self,
         ordinal: usize,
@@ -210,6 +215,7 @@ impl<'t> Reporter<'t> {
         }
     }
 
+    /// Reports the faults of a record type and returns the type. It is inside `around` words ARRAY and RECORD.
     #[cycle(types)]
     fn record(&mut self, r: &RecordType, around: usize) -> Result<TypeId, AllocError>
         ensures { IfOk result
@@ -241,6 +247,7 @@ impl<'t> Reporter<'t> {
         Ok(gathered)
     }
 
+    /// Makes a record type of the gathered fields and returns it. `word` is the token RECORD.
     fn make_record(
         &mut self,
         word: usize,
@@ -266,6 +273,7 @@ impl<'t> Reporter<'t> {
             .make(&mut self.faults, word, TypeEntry::Record(record))
     }
 
+    /// Reports the faults of one group of fields, which may be empty, and appends its fields.
     #[cycle(types)]
     fn group(
         &mut self,
@@ -284,6 +292,7 @@ impl<'t> Reporter<'t> {
         }
     }
 
+    /// Reports the faults of a group's type, and appends a field of this type for each of its names.
     #[cycle(types)]
     fn field_group(
         &mut self,
@@ -304,6 +313,7 @@ impl<'t> Reporter<'t> {
 }
 
 impl<'t> Supposed<'t> {
+    /// Appends a field of the type `of` for each of these names, and adds each field's size.
     fn gather_all(
         &self,
         alloc: Global,
@@ -323,7 +333,7 @@ impl<'t> Supposed<'t> {
         Ok(())
     }
 
-    /// Appends a field with this name and type to the fields of a record.
+    /// Appends a field with this name and type to the fields of a record, and adds its size.
     fn gather(
         &self,
         alloc: Global,
