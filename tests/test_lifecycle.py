@@ -169,13 +169,19 @@ def helped() -> None:
             same(run([*words, flag]).out, found.out, f"ob0 {' '.join(words)} {flag}")
 
 
+# where help says that the pages are: below each prefix that README names
+PAGES = [
+    "docs/MESSAGES.md",
+    "in share/doc/ob0 below the folder that ob0 was installed in:",
+    "/usr with the Debian package, otherwise /usr/local, ~/.local or another PREFIX.",
+]
 # what the help of a command has, and its statuses
 HELP = {
     "": ("012345", ["serve ", "check ", "run ", "rename ", "help COMMAND"]),
     "serve": ("012345", ["--stdio", "--clientProcessId <N>", "UTF-16 units"]),
-    "check": ("01245", ["<FILE>", "count from 0", "UTF-16", "LINE:COLUMN: CODE: MESSAGE", "/dev/stdin", "`man ob0` lists the CODEs", "docs/MESSAGES.md"]),
+    "check": ("01245", ["<FILE>", "count from 0", "UTF-16", "LINE:COLUMN: CODE: MESSAGE", "/dev/stdin", "`man ob0` lists the CODEs", *PAGES]),
     "run": ("01245", ["<FILE>", "--calls <N>", "--turns <N>", "0 to 64", "0 to 100000", "to the end of standard input", "Ctrl-D", "-2147483648", "fault: END", "--turns 5"]),
-    "rename": ("01245", ["<FILE> <LINE> <COLUMN> <NAME>", "count from 0", "in UTF-16 units", "refused: REASON", "look at the status", "`man ob0` lists the REASONs", "docs/MESSAGES.md"]),
+    "rename": ("01245", ["<FILE> <LINE> <COLUMN> <NAME>", "count from 0", "in UTF-16 units", "refused: REASON", "look at the status", "`man ob0` lists the REASONs", *PAGES]),
 }
 
 
