@@ -142,9 +142,14 @@ def kept() -> None:
         said = made.call(page)[1]
         holds("License: Expat and mid\n" in said and " 2001 A B (mid)\n" in said and "have none: low." in said, said)
         path = ":".join(it for it in os.environ["PATH"].split(":") if not os.path.exists(os.path.join(it, "rt")))
-        os.unlink(os.path.join(made.room, "bin", "ob0.notices"))
-        status, said = made.call(page, PATH=path)
-        same((status, "`make build` with rt on PATH" in said), (2, True), said)
+        beside = os.path.join(made.room, "bin", "ob0.notices")
+        others = json.dumps({**json.loads(text_of(beside)), "sources": "others"})
+        for content in (others, None):
+            os.unlink(beside)
+            if content:
+                write(beside, content)
+            status, said = made.call(page, PATH=path)
+            same((status, "`make build` with rt on PATH" in said), (2, True), f"with {'the notices of another program' if content else 'none'}: {said}")
 
 
 @test("release: only files that git knows are packed, and a version says whether they or the program's sources differ from the commit")
