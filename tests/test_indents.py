@@ -1,11 +1,13 @@
-"""The indentation of editors/, which goes by the heading above a line, against a walk over the whole text."""
+"""The indentation of editors/, which goes by the heading above a line, against a walk over the whole text; and how much it evaluates,
+which is counted and not timed."""
 from __future__ import annotations
 
 import json
 import os
 import random
+import re
 
-from harness import TOP, examples, same, test, text_of, want
+from harness import TOP, examples, holds, same, test, text_of, want
 from homes import at_home, run_in_terminal, run_plainly, temporary, write
 import aliasing_modules
 import corpus
@@ -92,3 +94,70 @@ def in_emacs() -> None:
         status, said = run_plainly([*words, "-l", os.path.join(TOP, "tests", "editors", "indents.el")], own, room)
         same((status, said.strip()), (0, ""), "what Emacs says")
         compared(room, made, True)
+
+
+PROCEDURE = """
+PROCEDURE P{}(VAR a: INTEGER);
+BEGIN
+  IF a > 1 THEN
+    a := a + 1
+  END;
+  WHILE a < 7 DO
+    a := a * (2 + a)
+  END
+END P{};
+"""
+SIZES = (5, 20)
+
+
+def costly_files(room: str) -> list[str]:
+    """Files of two modules, of which the second has four times as many procedures."""
+    names = [os.path.join(room, f"{size}.ob0") for size in SIZES]
+    for size, name in zip(SIZES, names):
+        procedures = "".join(PROCEDURE.replace("{}", str(at)) for at in range(size))
+        write(name, f"MODULE M;\nVAR x: INTEGER;\n{procedures}\nBEGIN\n  x := 1;\n  P0(x)\nEND M.\n")
+    return names
+
+
+def bounded(counts: list[list[int]]) -> None:
+    """Holds what a line near the end costs, and what all lines do, in both files."""
+    (line, every), (later, all_later) = counts
+    holds(0 < later <= 1.1 * line, f"a line near the end costs {line}, and {later} in a text four times as long")
+    holds(0 < all_later <= 5 * every, f"all lines cost {every}, and {all_later} in a text four times as long")
+
+
+def costs_by_vim(editor: str, words: list[str]) -> None:
+    with temporary() as room:
+        own, rc = at_home(room, editor), os.path.join(room, "rc.vim")
+        write(rc, "set nocompatible\nfiletype plugin indent on\n")
+        files = costly_files(room)
+        own["OB0_FILES"] = json.dumps(files)
+        script = os.path.join(TOP, "tests", "editors", "indent_costs.vim")
+        status, said = run_in_terminal([*words, "-n", "-i", "NONE", "-u", rc, "-S", script], own, room)
+        same(status, 0, said[-500:])
+        # (after the functions' lines come tables of all functions)
+        counted = [[text_of(f"{it}.{what}").partition("FUNCTIONS SORTED")[0] for what in ("line", "all")] for it in files]
+        bounded([[sum(map(int, re.findall(r"^ *(\d+) ", it, re.M))) for it in pair] for pair in counted])
+
+
+@test("indentation: in Vim a line near the end costs what it costs in a short text, and all lines cost in proportion")
+def costs_in_vim() -> None:
+    want("Vim")
+    costs_by_vim("vim", ["vim.nox"])
+
+
+@test("indentation: in Neovim a line near the end costs what it costs in a short text, and all lines cost in proportion")
+def costs_in_neovim() -> None:
+    want("Neovim")
+    costs_by_vim("neovim", ["nvim"])
+
+
+@test("indentation: in Emacs a line near the end costs what it costs in a short text, and all lines cost in proportion")
+def costs_in_emacs() -> None:
+    want("Emacs")
+    with temporary() as room:
+        mode = os.path.join(TOP, "editors", "emacs", "ob0-mode.el")
+        own = {**os.environ, "HOME": room, "OB0_MODE": mode, "OB0_FILES": json.dumps(costly_files(room))}
+        status, said = run_plainly(["emacs", "-Q", "--batch", "-l", os.path.join(TOP, "tests", "editors", "indent_costs.el")], own, room)
+        same(status, 0, said[-2000:])
+        bounded(json.loads(said.splitlines()[-1]))

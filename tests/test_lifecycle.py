@@ -169,13 +169,19 @@ def helped() -> None:
             same(run([*words, flag]).out, found.out, f"ob0 {' '.join(words)} {flag}")
 
 
+# where help says that the pages are: below each prefix that README names
+PAGES = [
+    "docs/MESSAGES.md",
+    "in share/doc/ob0 below the folder that ob0 was installed in:",
+    "/usr with the Debian package, otherwise /usr/local, ~/.local or another PREFIX.",
+]
 # what the help of a command has, and its statuses
 HELP = {
     "": ("012345", ["serve ", "check ", "run ", "rename ", "help COMMAND"]),
     "serve": ("012345", ["--stdio", "--clientProcessId <N>", "UTF-16 units"]),
-    "check": ("01245", ["<FILE>", "count from 0", "UTF-16", "LINE:COLUMN: CODE: MESSAGE", "/dev/stdin", "`man ob0` lists the CODEs", "docs/MESSAGES.md"]),
+    "check": ("01245", ["<FILE>", "count from 0", "UTF-16", "LINE:COLUMN: CODE: MESSAGE", "/dev/stdin", "`man ob0` lists the CODEs", *PAGES]),
     "run": ("01245", ["<FILE>", "--calls <N>", "--turns <N>", "0 to 64", "0 to 100000", "to the end of standard input", "Ctrl-D", "-2147483648", "fault: END", "--turns 5"]),
-    "rename": ("01245", ["<FILE> <LINE> <COLUMN> <NAME>", "count from 0", "in UTF-16 units", "refused: REASON", "look at the status", "`man ob0` lists the REASONs", "docs/MESSAGES.md"]),
+    "rename": ("01245", ["<FILE> <LINE> <COLUMN> <NAME>", "count from 0", "in UTF-16 units", "refused: REASON", "look at the status", "`man ob0` lists the REASONs", *PAGES]),
 }
 
 
@@ -205,14 +211,14 @@ def options_of_serve() -> None:
 
 @test("program: `run` says on standard error how input ends, where that is a terminal and there is something to run")
 def prompted() -> None:
-    def at_terminal(text: str) -> tuple[bytes, bytes, int]:
+    def at_terminal(text: str, command: str = "run", *more: str) -> tuple[bytes, bytes, int]:
         with tempfile.TemporaryDirectory() as room:
             with open(os.path.join(room, "m.mod"), "w", encoding="utf-8") as file:
                 file.write(text)
             keys, terminal = os.openpty()
             os.write(keys, b"20 22\n\x04")
             how: dict[str, Any] = {"stdin": terminal, "capture_output": True, "timeout": harness.SECONDS, "cwd": room}
-            ran = subprocess.run([harness.BINARY, "run", "m.mod"], check=False, **how)
+            ran = subprocess.run([harness.BINARY, command, "m.mod", *more], check=False, **how)
             os.close(keys)
             os.close(terminal)
         return ran.stdout, ran.stderr, ran.returncode
@@ -220,6 +226,8 @@ def prompted() -> None:
     said = b"ob0: reading numbers to the end of input (Ctrl-D at the start of a line)\n"
     same(at_terminal("MODULE M; VAR x, y: INTEGER; BEGIN Read(x); Read(y); Write(x + y) END M."), (b" 42", said, 0))
     same(at_terminal("MODULE M; BEGIN x := 1 END M."), (b"0:16: Undeclared: not declared\n", b"", 1))
+    same(at_terminal("MODULE M; END M.", "check"), (b"", b"", 0), "check, which reads no input")
+    same(at_terminal("MODULE M; VAR x: INTEGER; END M.", "rename", "0", "14", "y")[1:], (b"", 0), "rename, which reads no input")
     for page in (text_of("docs", "MESSAGES.md"), text_of("share", "ob0.1").replace("\\-", "-")):
         holds(said.decode().strip() in page, "a page that doesn't have this line")
 

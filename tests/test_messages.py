@@ -156,6 +156,10 @@ def run_ends() -> None:
     same(names, [it for it in known if it != "End"], "the ends")
     said = run(["help", "run"]).out.decode()
     holds(all(it in said for it in names), f"`ob0 help run` has all of {names}")
+    most = [f"{int(it):,}" for it in re.findall(r"\b0 to (\d+)", said)]
+    same(len(most), 2, "the bounds of a run")
+    for path in ("README.md", "docs/MESSAGES.md", "docs/TUTORIAL.md"):
+        same([it for it in most if not re.search(rf"(?<![-\w,]){it}(?![\w,])", text_of(path))], [], f"bounds that {path} doesn't name")
     # (a run that doesn't end, and what the page says to do)
     flags, text = match_of(r"`ob0 run (--turns \d) FILE`", endless[2])[1], filled(STATEMENTS, code_in(endless[3]))
     ends(on_file("run", text, *flags.split()), " 0 1 2" * 5, 1, "fault: TurnBound\n")

@@ -266,6 +266,11 @@ def installed() -> None:
             status, said = run_plainly([*words, "install"], environment, TOP)
             same(status, 0, said)
         same(paths_in(os.path.join(root, "opt", "x")), sorted([*paths_in(usr), "share/doc/ob0/installed"]), "the files")
+        # (each help that names a page says where the pages are)
+        for command in ("check", "rename"):
+            status, said = run_plainly([os.path.join(root, "opt", "x", "bin", "ob0"), "help", command], environment, room)
+            page, below = match_of(r"(docs/\S+\.md) .* in (\S+) below the folder that ob0 was\s+installed", said.replace("\n", " ")).groups()
+            holds(os.path.isfile(os.path.join(root, "opt", "x", below, page)), f"{page} isn't where `ob0 help {command}` says: {said}")
         status, said = run_plainly([*words, "uninstall"], environment, TOP)
         same(status, 0, said)
         left = [at for at, _, _ in os.walk(os.path.join(root, "opt", "x"))]

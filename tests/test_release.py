@@ -142,9 +142,14 @@ def kept() -> None:
         said = made.call(page)[1]
         holds("License: Expat and mid\n" in said and " 2001 A B (mid)\n" in said and "have none: low." in said, said)
         path = ":".join(it for it in os.environ["PATH"].split(":") if not os.path.exists(os.path.join(it, "rt")))
-        os.unlink(os.path.join(made.room, "bin", "ob0.notices"))
-        status, said = made.call(page, PATH=path)
-        same((status, "`make build` with rt on PATH" in said), (2, True), said)
+        beside = os.path.join(made.room, "bin", "ob0.notices")
+        others = json.dumps({**json.loads(text_of(beside)), "sources": "others"})
+        for content in (others, None):
+            os.unlink(beside)
+            if content:
+                write(beside, content)
+            status, said = made.call(page, PATH=path)
+            same((status, "`make build` with rt on PATH" in said), (2, True), f"with {'the notices of another program' if content else 'none'}: {said}")
 
 
 @test("release: only files that git knows are packed, and a version says whether they or the program's sources differ from the commit")
@@ -328,11 +333,13 @@ def installed_in_turn(room: str, *debs: str) -> None:
     known = "Package: {}\nStatus: install ok installed\nVersion: {}\nArchitecture: amd64\nMaintainer: x <x@example.org>\nDescription: x\n\n"
     write(os.path.join(admin, "status"), known.format("libc6", "2.99") + known.format("python3", "3.8.2"))
     words = ["dpkg", f"--root={room}", "--log=/dev/null", "--force-bad-path"]
+    heads: list[str] = []
     for deb in debs:
         status, said = run_plainly([*words, "--install", deb], dict(os.environ), room)
         same(status, 0, said)
+        heads = [f"ob0 ({os.path.basename(deb).split('_')[1]}) unstable; urgency=medium\n", *heads]
         with gzip.open(os.path.join(room, "usr", package.DOC, "changelog.gz"), "rt", encoding="utf-8") as file:
-            same(file.readline(), f"ob0 ({os.path.basename(deb).split('_')[1]}) unstable; urgency=medium\n", "the installed changelog")
+            same([it for it in file if it.startswith("ob0 (")], heads, "the entries of the installed changelog")
     status, said = run_plainly([*words, "--remove", "ob0"], dict(os.environ), room)
     shutil.rmtree(os.path.join(room, "var"))
     same((status, list(paths_in(room))), (0, []), f"what is left: {said}")

@@ -11,6 +11,7 @@ import shutil
 import xml.etree.ElementTree
 from collections.abc import Callable
 
+import editors
 import package
 import snippets
 from common import match_of
@@ -383,20 +384,20 @@ def help_in_neovim() -> None:
     helped("neovim", ["nvim", "-n", "-i", "NONE"], "Neovim")
 
 
-def by_runtimepath(words: list[str], folders: list[str], name: str) -> None:
-    """What Vim or Neovim does with a module and `:help ob0`, if folders like those of the repository are in 'runtimepath'."""
+def managed(words: list[str], name: str, folders: list[str], lines: list[str], shell: str = "", helptags: str = "helptags ALL") -> None:
+    """What Vim or Neovim does with a module and `:help ob0`, if copies of folders of editors/ are in ~/ob0, after these commands of a
+    shell, with these lines in its settings."""
     with temporary() as room:
         # (without the program: an editor that ends at once would end the server while it starts)
         kept = {key: value for key, value in os.environ.items() if not key.startswith("XDG_")}
         own, report = {**kept, "HOME": room, "TERM": "xterm"}, os.path.join(room, "report")
-        copies = [os.path.join(room, "a copy", it) for it in folders]
-        for it, copy in zip(folders, copies):
-            shutil.copytree(os.path.join(TOP, "editors", it), copy)
-        added = "".join(f"set runtimepath+={it}\n".replace("a copy", "a\\ copy") for it in copies)
-        write(os.path.join(room, "rc.vim"), f"set nocompatible\n{added}filetype plugin indent on\nsyntax on\n")
+        for it in folders:
+            shutil.copytree(os.path.join(TOP, "editors", it), os.path.join(room, "ob0", "editors", it))
+        same(run_plainly(["sh", "-e", "-c", shell], own, room), (0, ""), shell)
+        write(os.path.join(room, "rc.vim"), "\n".join(["set nocompatible", *lines, "filetype plugin indent on", "syntax on", ""]))
         write(os.path.join(room, "new.mod"), SAMPLE)
         found = "[&filetype, &shiftwidth, exists(':Ob0Run'), exists('b:current_syntax'), exists('g:loaded_ob0')]"
-        steps = ["helptags ALL", "edit new.mod", f"let r = {found}", "help ob0", "call add(r, expand('%:t'))"]
+        steps = [helptags, "edit new.mod", f"let r = {found}", "help ob0", "call add(r, expand('%:t'))"]
         write(os.path.join(room, "steps.vim"), "\n".join([*steps, f"call writefile([json_encode(r)], '{report}')", "qall!", ""]))
         rest = ["-n", "-i", "NONE", "-u", os.path.join(room, "rc.vim"), "-S", os.path.join(room, "steps.vim")]
         status, drawn = run_in_terminal([*words, *rest], own, room)
@@ -407,13 +408,55 @@ def by_runtimepath(words: list[str], folders: list[str], name: str) -> None:
 @test("syntax files: Vim takes its files from a folder in 'runtimepath', where plugin managers put it")
 def managed_in_vim() -> None:
     want("Vim")
-    by_runtimepath(["vim.nox"], ["vim"], "Vim")
+    managed(["vim.nox"], "Vim", ["vim"], ["set runtimepath+=~/a\\ copy"], "mv ob0/editors/vim 'a copy'")
 
 
 @test("syntax files: Neovim takes its files from folders in 'runtimepath', where plugin managers put them")
 def managed_in_neovim() -> None:
     want("Neovim")
-    by_runtimepath(["nvim"], ["vim", "neovim"], "Neovim")
+    lines = ["set runtimepath+=~/a\\ copy/vim", "set runtimepath+=~/a\\ copy/neovim"]
+    managed(["nvim"], "Neovim", ["vim", "neovim"], lines, "mv ob0/editors 'a copy'")
+
+
+# what Debian's Pathogen needs in Vim's settings
+PATHOGEN = [f"set runtimepath+={os.path.dirname(os.path.dirname(editors.PATHOGEN))}", "execute pathogen#infect()"]
+
+
+def by_pathogen(editor: str) -> str:
+    """The commands for Pathogen on an editor's page."""
+    (found,) = (it for it in snippets.snippets(editor, "") if "/bundle/" in it)
+    return found
+
+
+@test("syntax files: Pathogen takes Vim's files by the lines of their page")
+def pathogen_in_vim() -> None:
+    want("Vim", "Pathogen")
+    managed(["vim.nox"], "Vim", ["vim"], PATHOGEN, by_pathogen("vim"), "Helptags")
+
+
+@test("syntax files: Pathogen takes Neovim's files by the lines of their page")
+def pathogen_in_neovim() -> None:
+    want("Neovim", "Pathogen")
+    managed(["nvim"], "Neovim", ["vim", "neovim"], PATHOGEN, by_pathogen("neovim"), "Helptags")
+
+
+@test("syntax files: Emacs takes its mode by package-install-file and by use-package, as its page says")
+def managed_in_emacs() -> None:
+    want("Emacs", "eglot", "use-package")
+    (lines,) = (it for it in snippets.snippets("emacs", "elisp") if "(use-package" in it)
+    (file,) = re.findall(r"`M-x package-install-file RET (\S+) RET`", text_of("editors", "emacs", "README.md"))
+    with temporary() as room:
+        own = {**os.environ, "HOME": room, "LC_ALL": "C.UTF-8"}
+        shutil.copytree(os.path.join(TOP, "editors", "emacs"), os.path.join(room, "ob0", "editors", "emacs"))
+        write(os.path.join(room, "new.mod"), SAMPLE)
+        write(os.path.join(room, "init.el"), lines)
+        words = ["emacs", "--batch", "--eval", "(progn (require 'package) (package-initialize))"]
+        status, said = run_plainly([*words, "--eval", f'(package-install-file "{file}")'], own, room)
+        same(status, 0, said)
+        modes = ["--eval", "(find-file \"new.mod\")", "--eval", '(princ (format "%S %S\n" major-mode (memq \'eglot-ensure ob0-mode-hook)))']
+        same(run_plainly([*words, *modes], own, room)[1].splitlines()[-1], "ob0-mode nil", "the mode of the package")
+        shutil.rmtree(os.path.join(room, ".emacs.d"))
+        same(run_plainly([*words, "-l", "init.el", *modes], own, room)[1].splitlines()[-1], "ob0-mode (eglot-ensure)", "by use-package")
 
 
 @test("syntax files: the lines that Vim's help page has for settings are those of the editors' pages")

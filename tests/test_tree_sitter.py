@@ -65,7 +65,9 @@ def read_by_neovim(texts: tuple[str, ...]) -> Any:
         own = {**os.environ, "HOME": room, "OB0_PARSER": compiled(room), "OB0_QUERIES": os.path.join(FOLDER, "queries")}
         own.update(OB0_GIVEN=os.path.join(room, "given"), OB0_REPORT=os.path.join(room, "report"))
         script = os.path.join(TOP, "tests", "editors", "treesitter.lua")
-        status, said = run_plainly(["nvim", "--headless", "-n", "-i", "NONE", "-u", "NONE", "-c", f"luafile {script}"], own, room)
+        # (after an error of the script Neovim would wait)
+        words = ["nvim", "--headless", "-n", "-i", "NONE", "-u", "NONE", "-c", f"luafile {script}", "-c", "cquit"]
+        status, said = run_plainly(words, own, room)
         holds(status == 0 and os.path.exists(own["OB0_REPORT"]), said[-1500:])
         return json.loads(text_of(own["OB0_REPORT"]))
 

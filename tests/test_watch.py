@@ -21,6 +21,7 @@ from first_conversation import INPUT, OUTPUT
 from harness import EXIT, Message, did_change, did_close, did_open, extent, frame, holds, need_program, notice, place, request
 from harness import same, test, want
 from homes import temporary, write
+from snippets import snippets
 
 WATCH = watched.load()
 LITERALS: Message = {"codeAction": {"codeActionLiteralSupport": {}}}
@@ -549,13 +550,16 @@ def breaks(editor: keyed.Keyed, rule: str) -> None:
 
 
 class PlainNeovim(keyed.Neovim):
-    """Neovim's own client, without ob0's files."""
+    """Neovim's own client, without ob0's files, by the configuration on Neovim's page."""
 
-    start = """
-vim.api.nvim_create_autocmd({ "BufRead" }, { callback = function()
-  local id = vim.lsp.start_client({ name = "plain", cmd = { "ob0", "serve" } })
+    (given,) = (it for it in snippets("neovim", "") if it.startswith("return {"))
+    start = f"""
+local given = (function()
+{given}end)()
+vim.api.nvim_create_autocmd({{ "BufRead" }}, {{ callback = function()
+  local id = vim.lsp.start_client({{ name = "plain", cmd = given.cmd }})
   vim.lsp.buf_attach_client(0, id)
-end })
+end }})
 """
 
     def settings(self) -> Dict[str, str]:

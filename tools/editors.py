@@ -59,6 +59,8 @@ def tree_sitter() -> bool:
     return said.decode(errors="replace").startswith("tree-sitter 0.22.")
 
 
+PATHOGEN = "/usr/share/vim-pathogen/autoload/pathogen.vim"  # a plugin manager of Vim
+
 # Each table has the names of tools: how to see that one is here, and the package of Debian that has it (none: Debian 12 has none).
 # Editors, which tests drive: `make test` leaves a test out if one that it drives is missing.
 EDITORS = {
@@ -102,6 +104,8 @@ DESKTOP = {
     "mypy": (here("mypy"), "mypy"),
     "gpg": (here("gpg"), "gnupg"),
     "package-lint": (in_emacs("package-lint"), "elpa-package-lint"),
+    "use-package": (in_emacs("use-package"), "elpa-use-package"),
+    "Pathogen": (folder(PATHOGEN), "vim-pathogen"),
     "tree-sitter 0.22": (tree_sitter, ""),
 }
 # What `make test` doesn't pass without.

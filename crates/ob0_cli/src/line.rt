@@ -57,8 +57,9 @@ A line `LINE:COLUMN: CODE: MESSAGE` is printed for each of at most 100 faults,
 and nothing for a correct module. Lines and columns count from 0, columns in
 UTF-16 units; the lines and columns that an editor shows count from 1.
 The FILE /dev/stdin is standard input: `COMMAND | ob0 check /dev/stdin`.
-`man ob0` lists the CODEs. docs/MESSAGES.md explains each, with what to do; that
-page is below /usr/share/doc/ob0 or /usr/local/share/doc/ob0.
+`man ob0` lists the CODEs. docs/MESSAGES.md explains each, with what to do. That
+page is in share/doc/ob0 below the folder that ob0 was installed in: /usr with
+the Debian package, otherwise /usr/local, ~/.local or another PREFIX.
 
 Exit status:
   0  the module is correct
@@ -102,8 +103,9 @@ file: a shell empties it first). A name that would change what the module does
 is refused, with `refused: REASON` on standard error. In a module with faults
 nothing is renamed: they are printed as `ob0 check` prints them, to standard
 output. So look at the status before you use what was printed.
-`man ob0` lists the REASONs. docs/MESSAGES.md explains each, with what to do;
-that page is below /usr/share/doc/ob0 or /usr/local/share/doc/ob0.
+`man ob0` lists the REASONs. docs/MESSAGES.md explains each, with what to do.
+That page is in share/doc/ob0 below the folder that ob0 was installed in: /usr
+with the Debian package, otherwise /usr/local, ~/.local or another PREFIX.
 
 Exit status:
   0  the new text was printed
