@@ -18,7 +18,7 @@ use Rattle.ob0_run_cells.specs.Activations.{ProgramMeans}
 use Rattle.ob0_run_cells.specs.LoweredStatements.{written_of}
 use Rattle.ob0_run_cells.specs.Lowering.{end_of}
 
--- a run of lowered code as one of the module
+-- the run of a module that a run of lowered code stands for: the same output and end
 abbrev pub run_of : execution.MachineRun → Run
 run_of r = record { output = map written_of r.output; ending = end_of r.ending }
 

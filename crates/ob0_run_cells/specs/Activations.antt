@@ -33,11 +33,11 @@ pub data Whereabouts : Type 0 where
   in_slot : Slot → Whereabouts
   at_target : Target → Whereabouts
 
--- where each bound name is, the newest first, as in an environment
+-- a place for each bound name, the newest name first, as in an environment
 abbrev pub Placing : Type 0 → Type 0
 Placing N = List (N × Whereabouts)
 
--- the placing from the binding of a name to its end
+-- the suffix of a placing that begins with the newest binding of a name
 abbrev pub from_name : {N : Type 0} → Naming N → Placing N → N → Placing N
 from_name naming [] x = []
 from_name naming (b ∷ placing) x =
@@ -90,13 +90,14 @@ abbrev pub inward : {N : Type 0} → Placing N → Placing N
 inward [] = []
 inward (b ∷ placing) = (b.0, inward_whereabouts b.1) ∷ inward placing
 
--- the placing of an activation so far, with its number of cells and of VAR parameters
+-- the placing of the names of an activation that were placed so far, the number of their cells,
+-- and the number of their VAR parameters
 pub record Placed (N : Type 0) : Type 0 where
   pub placing : Placing N
   pub cells : ℕ
   pub reference_places : ℕ
 
--- one more name is placed: by value in n new cells, as VAR by its address
+-- Places one more name: by value in n new cells, or as a VAR parameter by its address.
 abbrev pub place_one : {N : Type 0} → (ℕ → Slot) → Mode → N → ℕ → Placed N → Placed N
 place_one at by_value x n p =
     record p { placing = (x, in_slot (at p.cells)) ∷ p.placing; cells = p.cells + n }
@@ -106,12 +107,12 @@ place_one at by_place x n p =
       reference_places = suc p.reference_places;
     }
 
--- names are placed one by one, each in n cells
+-- Places names one after the other, each in n cells.
 abbrev pub place_names : {N : Type 0} → (ℕ → Slot) → List N → ℕ → Placed N → Placed N
 place_names at [] n p = p
 place_names at (x ∷ xs) n p = place_names at xs n (place_one at by_value x n p)
 
--- the variables of a block are placed one after the other
+-- Places the variables of a block one after the other. None if a type of theirs denotes nothing.
 unfoldable pub place_variables : {N : Type 0}
     → Naming N
     → (ℕ → Slot)
@@ -127,13 +128,13 @@ place_variables naming at checked k (more (declares_variable ns u) gs) p =
     (bind_names (names_listed ns) (a_variable s) checked) (k + constructors u) gs
     (place_names at (names_listed ns) (size s) p)) (denoted (meanings naming checked) k u)
 
--- parameters are placed one after the other
+-- Places parameters one after the other.
 abbrev pub place_parameters : {N : Type 0} → List (TypedParameter N) → Placed N → Placed N
 place_parameters [] p = p
 place_parameters (q ∷ ps) p =
     place_parameters ps (place_one (held 0) q.formal.mode q.name (size q.formal.shape) p)
 
--- constants and types are nowhere
+-- Binds names that have no place, as those of constants and types, to `nowhere`.
 abbrev pub hide_names : {N : Type 0} → List N → Placing N → Placing N
 hide_names [] placing = placing
 hide_names (x ∷ xs) placing = hide_names xs ((x, nowhere) ∷ placing)
@@ -310,7 +311,7 @@ PlacingFits table typing ls (b ∷ checked) (w ∷ placing) (d ∷ active) =
     (PlacingFits table typing ls checked placing active)
 PlacingFits table typing ls _ _ _ = ⊥
 
--- the predeclared names are nowhere
+-- the placing of the predeclared names, which have no place
 abbrev pub outermost_placing : {N : Type 0} → Naming N → Placing N
 outermost_placing naming =
     (naming.predeclared 6, nowhere)
@@ -322,7 +323,7 @@ outermost_placing naming =
     ∷ (naming.predeclared 0, nowhere)
     ∷ []
 
--- states that a program is lowered from a module
+-- Holds if a program means a module: its body and its procedures mean those of the module.
 abbrev pub ProgramMeans : {N : Type 0}
     → Naming N
     → Tree N module_text

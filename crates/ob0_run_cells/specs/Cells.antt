@@ -6,14 +6,14 @@ use Rattle.ob0_language_names.specs.Names.{Name, same_name}
 use Rattle.ob0_language_values.specs.Values.{FieldShapes, Members, Place, Shape, Step, Store, Value, Values, array_shape, at_field, at_index, boolean_shape, elements, integer_shape, members, next_field_shape, next_member, next_value, no_field_shape, no_member, no_value, number, record_shape, truth}
 use Rattle.ob0_language_runs.specs.Fitting.{StoreTyping, part_shape}
 
--- FALSE is 0 and TRUE is 1
+-- the cell of a truth value: 0 for FALSE, 1 for TRUE
 abbrev pub truth_cell : Bool → ℤ
 truth_cell false = pos 0
 truth_cell true = pos 1
 
 -- the cells of a value
 abbrev mutual
-  -- one cell for a number or a truth value; the cells of its parts for an array or a record
+  -- the cells of a value: one for a number or a truth value, those of all parts for an array or a record
   pub cells_of : Value → List ℤ
   cells_of (number n) = n ∷ []
   cells_of (truth b) = truth_cell b ∷ []
@@ -37,7 +37,7 @@ all_cells (v ∷ store) = cells_of v ++ all_cells store
 
 -- the number of cells of a value of a type
 abbrev mutual
-  -- 1 for a scalar; the cells of its parts for an array or a record
+  -- the number of cells: 1 for a scalar, the sum over all parts for an array or a record
   pub size : Shape → ℕ
   size integer_shape = 1
   size boolean_shape = 1
@@ -82,6 +82,6 @@ address typing p =
 abbrev pub cells_at : ℕ → ℕ → List ℤ → List ℤ
 cells_at address n cells = take n (drop address cells)
 
--- the cells after others were written at an address
+-- the cells with other cells written over those at an address
 abbrev pub cells_with : ℕ → List ℤ → List ℤ → List ℤ
 cells_with address new cells = take address cells ++ (new ++ drop (address + length new) cells)

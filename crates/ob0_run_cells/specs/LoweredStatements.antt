@@ -30,8 +30,8 @@ pub record Represents (typing : StoreTyping) (low : execution.MachineState) (s :
   pub same_input : low.input ≡ s.input
   pub same_output : map written_of low.output ≡ s.output
 
--- states that both runs continue or both have ended alike;
--- true if the lowered run has no room
+-- Holds if both runs continue in states that represent each other, or both have ended alike.
+-- Holds too if the lowered run has no room.
 abbrev pub ProgressRepresents : StoreTyping → execution.MachineProgress → Progress → Type 0
 ProgressRepresents typing execution.no_room q = Unit {0}
 ProgressRepresents typing (execution.running low) (running s) = Represents typing low s
@@ -131,7 +131,7 @@ SequenceMeans checked slots targets cs a =
     Does checked slots targets (λ b t. execution.execute_all b.lowered_enters t b.levels cs)
     (λ b t. execute_all b.active b.enters t a)
 
--- the same for the statements after the first
+-- Holds if lowered code does what the statements after the first of a sequence do.
 abbrev pub FurtherMean : {N : Type 0}
     → Typed N
     → (N → Slot)
@@ -143,7 +143,7 @@ FurtherMean checked slots targets cs rest =
     Does checked slots targets (λ b t. execution.execute_all b.lowered_enters t b.levels cs)
     (λ b t. execute_further b.active b.enters t rest)
 
--- the same for the ELSE part
+-- Holds if lowered code does what an ELSE part does, or nothing if there is none.
 abbrev pub ElseMeans : {N : Type 0}
     → Typed N
     → (N → Slot)
@@ -155,7 +155,8 @@ ElseMeans checked slots targets cs last =
     Does checked slots targets (λ b t. execution.execute_all b.lowered_enters t b.levels cs)
     (λ b t. execute_else b.active b.enters t last)
 
--- the same for the ELSIF parts, and the ELSE part after them
+-- Holds if lowered branches, with the statements that run if no condition is TRUE, do what ELSIF
+-- parts and the ELSE part after them do.
 abbrev pub ElsifsMean : {N : Type 0}
     → Typed N
     → (N → Slot)
@@ -170,7 +171,7 @@ ElsifsMean checked slots targets bs cs rest last =
     (execution.execute_all b.lowered_enters t b.levels cs))
     (λ b t. execute_elsifs b.active b.enters t rest (execute_else b.active b.enters t last))
 
--- states that an expression is only a designator of a variable, which is at a place
+-- Holds if an expression is only a designator of a variable, and a place of lowered code means its place.
 pub record IsAt {N : Type 0} (checked : Typed N) (slots : N → Slot) (q : lowered.Place) (s : Shape)
     (e : Tree N expression) : Type 0 where
   pub name : N

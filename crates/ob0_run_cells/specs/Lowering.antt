@@ -41,7 +41,7 @@ slot_place (held zero offset) = lowered.here offset
 slot_place (held (suc up) offset) = lowered.outside (suc up) offset
 slot_place (by_reference up index) = lowered.passed up index 0
 
--- the place of a part at an offset: offsets are added
+-- the place of a part at an offset in another place
 abbrev pub part_at : lowered.Place → ℕ → lowered.Place
 part_at (lowered.in_module at) k = lowered.in_module (machine.forward at k)
 part_at (lowered.here at) k = lowered.here (machine.forward at k)
@@ -115,7 +115,7 @@ TruthMeans {N} checked slots t value =
     → Shows checked slots m
     → outcome_of truth (machine.truth m.levels (cells_in m) t) ≡ value m
 
--- states that a place that is given is one for values of a type
+-- Holds if an evaluation that gives a place gives a place for values of a type.
 abbrev pub GivesPlace : StoreTyping → Shape → Outcome Place → Type 0
 GivesPlace typing s (gives p) = PlaceFits typing p s
 GivesPlace typing s (ends e) = Unit {0}
@@ -182,7 +182,7 @@ addends_left rest m v = evaluate_addends m.active m.store v rest
 abbrev pub multipliers_left : {N : Type 0} → Tree N (items multiplier) → RestOfChain N Value
 multipliers_left rest m v = evaluate_multipliers m.active m.store v rest
 
--- a place, some steps further in
+-- the place of a part: the steps to it are appended to the path of a place
 abbrev pub further : Place → List Step → Place
 further p steps = record { variable = p.variable; path = p.path ++ steps }
 
@@ -206,7 +206,7 @@ Leads {N} {A} checked slots Means rest whole =
     × Means so_far
     × ((m : Moment N) → Shows checked slots m → (so_far m >>= rest m) ≡ whole m)
 
--- the same for a place and the remaining selectors
+-- Holds if a place so far, followed by the remaining selectors, is the place of the whole designator.
 abbrev pub PlaceLeads : {N : Type 0}
     → Typed N
     → (N → Slot)
@@ -218,7 +218,7 @@ abbrev pub PlaceLeads : {N : Type 0}
 PlaceLeads checked slots q s rest =
     Leads checked slots (PlaceMeans checked slots q s) (selectors_left rest)
 
--- the same for a number
+-- Holds if a number so far, followed by the rest of a chain, is the number of the whole.
 abbrev pub NumberLeads : {N : Type 0}
     → Typed N
     → (N → Slot)
@@ -228,7 +228,7 @@ abbrev pub NumberLeads : {N : Type 0}
     → Type 0
 NumberLeads checked slots n = Leads checked slots (NumberMeans checked slots n)
 
--- the same for a truth
+-- Holds if a truth so far, followed by the rest of a chain, is the truth of the whole.
 abbrev pub TruthLeads : {N : Type 0}
     → Typed N
     → (N → Slot)
@@ -238,7 +238,7 @@ abbrev pub TruthLeads : {N : Type 0}
     → Type 0
 TruthLeads checked slots t = Leads checked slots (TruthMeans checked slots t)
 
--- relations of numbers
+-- the machine's relation for a relation of the language
 abbrev pub relation_of : Relation → lowered.Comparator
 relation_of relation.Equal = lowered.equal
 relation_of relation.NotEqual = lowered.not_equal

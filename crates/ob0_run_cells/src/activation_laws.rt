@@ -1,4 +1,4 @@
-//! The law of lowered runs. The function does nothing: its contract is the law.
+//! The law of lowered runs. It is the contract of a function that does nothing.
 
 ghost use Rattle.ob0_run_cells.specs.ActivationLaws.{RunsLowered};
 

@@ -28,7 +28,7 @@ Later table n ps =
     → slice_get ps i ≡ Some e
     → slice_get table i ≡ Some (procedure_of e)
 
--- states that procedures were added
+-- Holds if each index of an earlier table of procedures has the same code in a later one.
 abbrev pub Grown : List Routine → List Routine → Type 0
 Grown before now = (i : ℕ) (e : Routine) → slice_get before i ≡ Some e → slice_get now i ≡ Some e
 
@@ -49,7 +49,8 @@ pub record Ready (t : Tables) (sites : List Site) (depth : ℕ) (s : BlockState)
   pub fits : procedures_fit as_labels s.env s.next statements ps ≡ true
   pub declared_following : ProceduresDeclared (declared_in t) s.env s.next ps
 
--- states that the remaining procedures mean their blocks, by the table of procedures
+-- Holds if, in a table of procedures, the remaining procedures of a block have code that means their blocks, and
+-- `code` means the block's statements.
 abbrev pub AllMean : List lowered.Routine
     → BlockState
     → lowered.Instructions

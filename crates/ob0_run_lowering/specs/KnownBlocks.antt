@@ -16,18 +16,18 @@ use Rattle.ob0_language_values.specs.Values.{Shape}
 abbrev pub Objects : Type 0
 Objects = ℕ → Option (Object Shape Signature)
 
--- states that each binding is of an ordinal, to the object of its declaration
+-- Holds if each binding of an environment binds an ordinal to the object that is declared under this ordinal.
 abbrev pub AreDeclared : Objects → TypeEnvironment Label → Type 0
 AreDeclared objects [] = Unit {0}
 AreDeclared objects (b ∷ env) =
     ((k : ℕ) × (b.0 ≡ declared k) × (objects k ≡ Some b.1)) × AreDeclared objects env
 
--- states the same for each environment in which procedures and statements of a block are checked,
--- and of the blocks in it
+-- Holds if `AreDeclared` holds of each environment in which the procedures and statements of a block are checked,
+-- and of those of the blocks in it.
 abbrev pub BlockDeclared : Objects → TypeEnvironment Label → ℕ → Tree Label block → Type 0
 BlockDeclared objects = BlockHas (AreDeclared objects)
 
--- states the same for procedures
+-- Holds if `AreDeclared` holds of each environment in which procedures and their blocks are checked.
 abbrev pub ProceduresDeclared : Objects
     → TypeEnvironment Label
     → ℕ

@@ -20,7 +20,7 @@ use Rattle.ob0_run_cells.specs.Lowering.{Slot, TruthMeans, value_of_expression}
 use Rattle.ob0_run_lowering.specs.declared.scene.Scene.{Scene}
 use Rattle.ob0_run_lowering.specs.Scenes.{Sees}
 
--- for all checked names, slots and targets that a scene sees, if the tree fits
+-- Holds if, for all checked names, slots and targets that a scene sees and by which a tree fits, `Means` holds.
 abbrev pub InScene : Scene
     → (Typed Label → Bool)
     → (Typed Label → (Label → Slot) → (Label → Target) → Type 0)
@@ -31,13 +31,13 @@ InScene scene fits Means =
     → IsTrue (fits checked)
     → Means checked slots targets
 
--- states that the code of a condition means it
+-- Holds if a truth of lowered code means a condition in a scene.
 abbrev pub ConditionLowers : Scene → lowered.Truth → Tree Label expression → Type 0
 ConditionLowers scene t e =
     InScene scene (λ checked. condition_fits checked e)
     (λ checked slots targets. TruthMeans checked slots t (value_of_expression e))
 
--- states that the code of arguments means them
+-- Holds if lowered arguments mean the arguments of a call in a scene.
 abbrev pub ArgumentsLower : Scene
     → Signature
     → List lowered.LoweredArgument
@@ -47,42 +47,42 @@ ArgumentsLower scene signature cs es =
     InScene scene (λ checked. arguments_fit checked signature es)
     (λ checked slots targets. ArgumentsMean checked slots signature cs es)
 
--- states that the code of a statement means it
+-- Holds if lowered code means a statement in a scene.
 abbrev pub StatementLowers : Scene → lowered.Instruction → Tree Label statement → Type 0
 StatementLowers scene c a =
     InScene scene (λ checked. statement_fits checked a)
     (λ checked slots targets. StatementMeans checked slots targets c a)
 
--- the arguments of a call, or none
+-- the arguments of a call, or no arguments if it has no argument list
 abbrev pub given_in : Option (Vec Expression Global) → List Expression
 given_in None = []
 given_in (Some es) = es.items
 
--- states the same for a statement that may be empty, and has no code then
+-- Holds if lowered code means a statement in a scene, or if there is no code and the statement is empty.
 abbrev pub CodeLowers : Scene → Option lowered.Instruction → Tree Label statement → Type 0
 CodeLowers scene None a = a ≡ empty
 CodeLowers scene (Some c) a = StatementLowers scene c a
 
--- states that the code of statements means them
+-- Holds if lowered code means a sequence of statements in a scene.
 abbrev pub SequenceLowers : Scene → lowered.Instructions → Tree Label sequence → Type 0
 SequenceLowers scene cs a =
     InScene scene (λ checked. sequence_fits checked a)
     (λ checked slots targets. SequenceMeans checked slots targets cs a)
 
--- states the same for the statements after the first
+-- Holds if lowered code means the statements after the first of a sequence in a scene.
 abbrev pub FurtherLower : Scene → lowered.Instructions → Tree Label (items further_statement)
     → Type 0
 FurtherLower scene cs rest =
     InScene scene (λ checked. statements_fit checked rest)
     (λ checked slots targets. FurtherMean checked slots targets cs rest)
 
--- states that the code of an ELSE part means it
+-- Holds if lowered code means an ELSE part in a scene.
 abbrev pub ElseLowers : Scene → lowered.Instructions → Tree Label (maybe else_part) → Type 0
 ElseLowers scene cs last =
     InScene scene (λ checked. else_fits checked last)
     (λ checked slots targets. ElseMeans checked slots targets cs last)
 
--- states the same for the ELSIF parts, and the ELSE part after them
+-- Holds if lowered code means ELSIF parts and the ELSE part after them in a scene.
 abbrev pub ElsifsLower : Scene
     → lowered.Branches
     → lowered.Instructions
@@ -93,8 +93,8 @@ ElsifsLower scene bs cs rest last =
     InScene scene (λ checked. elsifs_fit checked rest && else_fits checked last)
     (λ checked slots targets. ElsifsMean checked slots targets bs cs rest last)
 
--- states that the code of a body means it, in each environment and at each placing
--- that the scene sees
+-- Holds if lowered code means a body in each environment in which the body fits and each placing, of which the
+-- scene sees both.
 abbrev pub BodyLowers : Scene → lowered.Instructions → Tree Label (maybe body) → Type 0
 BodyLowers scene cs b =
     (env : TypeEnvironment Label) (placing : Placing Label)

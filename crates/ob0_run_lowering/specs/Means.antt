@@ -23,18 +23,18 @@ use Rattle.ob0_run_lowering.specs.declared.lowered.TypedPlace.{TypedPlace}
 use Rattle.ob0_run_lowering.specs.declared.lowered.Lowered.{Lowered}
 use Rattle.ob0_run_lowering.specs.declared.scene.Scene.{Scene}
 
--- states that the code of an expression of a type means it
+-- Holds if a value of the code's types means an expression of a type.
 abbrev pub Means : Typed Label → (Label → Slot) → Lowered → Shape → Evaluated Label Value → Type 0
 Means checked slots l s value = CodeMeans checked slots (code_of l) s value
 
--- for all checked names and slots for which a scene is right
+-- Holds if P holds for all checked names and slots that a scene sees.
 abbrev pub WhereSeen : Scene → (Typed Label → (Label → Slot) → Type 0) → Type 0
 WhereSeen scene P =
     (checked : Typed Label) (slots : Label → Slot) (targets : Label → Target)
     → Sees scene checked slots targets
     → P checked slots
 
--- states that the code of an expression means it, if it has a type
+-- Holds if code means an expression in a scene, or the expression has no type.
 abbrev pub Lowers : Scene → Tree ℕ expression → Lowered → Type 0
 Lowers scene e l =
     WhereSeen scene (λ checked slots. (s : Shape)
