@@ -1,0 +1,9 @@
+mod WorkedValues
+mod LexemeTests
+mod WorkedTexts
+mod WorkedModule
+mod WorkedEdits
+mod LayoutEdits
+mod WorkedAnswers
+mod LayoutAnswers
+mod Courses

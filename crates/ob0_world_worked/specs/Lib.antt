@@ -1,0 +1,3 @@
+pub mod WorkedText
+pub mod WorkedAnswers
+pub mod Formatting
