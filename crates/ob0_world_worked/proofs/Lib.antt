@@ -7,3 +7,6 @@ mod LayoutEdits
 mod WorkedAnswers
 mod LayoutAnswers
 mod Courses
+mod Json
+mod WorkedMessages
+mod WorkedExchange

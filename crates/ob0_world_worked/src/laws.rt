@@ -1,5 +1,6 @@
-//! States laws about one text: its worked answers. And a law that formatting has answers.
+//! States laws about one text, its worked answers and a worked exchange; and laws that formatting has answers.
 ghost use Rattle.ob0_world_worked.specs.Formatting.{ACourseFitsFormatting, FormattingHasAnswers};
+ghost use Rattle.ob0_world_worked.specs.WorkedExchange.{AWorkedExchange};
 ghost use Rattle.ob0_world_worked.specs.WorkedAnswers.{ACapture, ARename, AnInlining, AnInliningEverywhere};
 
 use ob0_language_runs::laws::{
@@ -57,4 +58,14 @@ pub fn a_course_fits_formatting()
 {
     formatting_has_answers();
     a_course_fits();
+}
+
+/// States that there is an exchange in which an editor initializes a session, opens a document at version 0, sends a
+/// hover and a request for code actions in a range, of one kind, and applies the answer by two changes in one notification.
+pub fn a_worked_exchange()
+    ensures { AWorkedExchange }
+{
+    constants_are_alone();
+    inlining_keeps_modules();
+    inlining_everywhere_keeps_modules();
 }
