@@ -1,0 +1,12 @@
+mod WorkedValues
+mod LexemeTests
+mod WorkedTexts
+mod WorkedModule
+mod WorkedEdits
+mod LayoutEdits
+mod WorkedAnswers
+mod LayoutAnswers
+mod Courses
+mod Json
+mod WorkedMessages
+mod WorkedExchange

@@ -1,0 +1,95 @@
+-- The edits of the worked answers, and the texts that they leave.
+use Rattle.std.proofs.Common.{◌≡◌, ◌∙◌, ◌≤◌, ℕ, List, [], ◌∷◌, Some, map, length, refl, sym, ap, arith}
+use Rattle.std.specs.Prelude.{codes, decimal}
+use Rattle.std.specs.Fmt.{digits}
+use Rattle.std.specs.Str.{chars, IsUtf8}
+use Rattle.ob0_scan.specs.Lexed.{joined}
+use Rattle.ob0_text.specs.declared.edits.Edit.{Edit}
+use Rattle.ob0_text.specs.declared.position_types.Unit.TheVariants.{Utf16}
+use Rattle.ob0_text.specs.Units.{width_of}
+use Rattle.ob0_text.specs.Texts.{before, body_at, ends_line, fitting, lines, offset_of, position_in, position_of, starts_with_lf}
+use Rattle.ob0_text.specs.Texts as texts
+use Rattle.ob0_text.specs.Patches.{all_apart, cut_at, in_text_order, patched, patched_by_cuts, pieced, place}
+use Rattle.ob0_edits_tokens.specs.Ranges.{range_of}
+use Rattle.ob0_edits_tokens.specs.Removed.{span_over, without_text}
+use Rattle.ob0_edits_tokens.specs.Replaced.{edit_at, parts, with_text_at}
+use Rattle.ob0_scope_table.specs.Resolution.{span_at}
+use Rattle.ob0_world_worked.specs.WorkedText.{at, worked_text}
+use Rattle.ob0_world_worked.proofs.WorkedValues.{string_of}
+use Rattle.ob0_world_worked.proofs.WorkedTexts.{chars_so, inlined_lexemes, renamed_lexemes, scanned_of, utf8_so, without_lexemes, worked_lexemes}
+
+abbrev pub edit : ℕ → ℕ → ℕ → (new : List ℕ) → IsUtf8 new → length new ≤ 1048576 → Edit
+edit line from to new u short = record { range = record { start = at line from; end = at line to }; text = string_of new u short }
+
+abbrev pub puts_y : ℕ → ℕ → ℕ → Edit
+puts_y line from to = edit line from to (codes "y") (utf8_so (codes "y") refl) (omega (arith))
+
+abbrev pub renames : List Edit
+renames = puts_y 4 2 3 ∷ puts_y 6 2 3 ∷ puts_y 7 8 9 ∷ []
+
+abbrev pub puts_two : Edit
+puts_two = edit 6 7 8 (codes "2") (utf8_so (codes "2") refl) (omega (arith))
+
+abbrev pub takes_out : Edit
+takes_out = edit 2 2 8 [] (utf8_so [] refl) (omega (arith))
+
+pub x_is_at : offset_of (width_of Utf16) worked_text (at 4 2) ≡ 31
+unfolding before fitting lines body_at ends_line starts_with_lf texts.joined lib.Utf8.encode
+x_is_at = refl
+
+pub n_is_at : offset_of (width_of Utf16) worked_text (at 6 7) ≡ 56
+unfolding before fitting lines body_at ends_line starts_with_lf texts.joined lib.Utf8.encode
+n_is_at = refl
+
+pub renames_parts : map parts renames ≡ map (edit_at Utf16 worked_text (scanned_of worked_lexemes).tokens (codes "y")) (9 ∷ 14 ∷ 20 ∷ [])
+unfolding position_of position_in lines ends_line starts_with_lf fitting
+renames_parts = refl
+
+pub inlines_parts : parts puts_two ≡ edit_at Utf16 worked_text (scanned_of worked_lexemes).tokens (codes "2") 16
+unfolding position_of position_in lines ends_line starts_with_lf fitting
+inlines_parts = refl
+
+renames_made : patched (width_of Utf16) worked_text renames ≡ Some (joined renamed_lexemes)
+unfolding patched_by_cuts cut_at place all_apart in_text_order pieced before fitting lines body_at ends_line starts_with_lf texts.joined chars
+renames_made = refl
+
+pub renames_leave : patched (width_of Utf16) worked_text renames ≡ Some (chars (joined renamed_lexemes))
+renames_leave = renames_made ∙ ap Some (sym (chars_so (joined renamed_lexemes) refl))
+
+inlines_made : patched (width_of Utf16) worked_text (puts_two ∷ []) ≡ Some (joined inlined_lexemes)
+unfolding patched_by_cuts cut_at place all_apart in_text_order pieced before fitting lines body_at ends_line starts_with_lf texts.joined chars
+inlines_made = refl
+
+pub inlines_leave : patched (width_of Utf16) worked_text (puts_two ∷ []) ≡ Some (chars (joined inlined_lexemes))
+inlines_leave = inlines_made ∙ ap Some (sym (chars_so (joined inlined_lexemes) refl))
+
+everywhere_made : patched (width_of Utf16) worked_text (takes_out ∷ puts_two ∷ []) ≡ Some (joined without_lexemes)
+unfolding patched_by_cuts cut_at place all_apart in_text_order pieced before fitting lines body_at ends_line starts_with_lf texts.joined chars
+everywhere_made = refl
+
+pub everywhere_leave : patched (width_of Utf16) worked_text (takes_out ∷ puts_two ∷ []) ≡ Some (chars (joined without_lexemes))
+everywhere_leave = everywhere_made ∙ ap Some (sym (chars_so (joined without_lexemes) refl))
+
+pub declaration_parts : parts takes_out ≡ (range_of (width_of Utf16) worked_text (span_over (scanned_of worked_lexemes).tokens 4 7), [])
+unfolding position_of position_in lines ends_line starts_with_lf fitting
+declaration_parts = refl
+
+pub write_is_at : range_of (width_of Utf16) worked_text (span_at (scanned_of worked_lexemes) 18) ≡ record { start = at 7 2; end = at 7 7 }
+unfolding position_of position_in lines ends_line starts_with_lf fitting
+write_is_at = refl
+
+pub renamed_length : length (with_text_at (scanned_of worked_lexemes) (9 ∷ 14 ∷ 20 ∷ []) (codes "y")) ≡ 77
+unfolding pieced
+renamed_length = refl
+
+pub inlined_length : length (with_text_at (scanned_of worked_lexemes) (16 ∷ []) (codes "2")) ≡ 77
+unfolding pieced
+inlined_length = refl
+
+pub without_length : length (without_text (scanned_of worked_lexemes) 4 7 (16 ∷ []) (codes "2")) ≡ 71
+unfolding pieced
+without_length = refl
+
+pub two_text : decimal 2 ≡ codes "2"
+unfolding digits
+two_text = refl

@@ -1,0 +1,115 @@
+-- The worked text and the texts that its edits leave, cut into lexemes.
+use Rattle.std.proofs.Common.{◌≡◌, ◌∙◌, ◌≤◌, ℕ, zero, suc, Bool, true, List, [], ◌∷◌, ◌++◌, length, encode_utf8_all, refl, sym, ap, arith}
+use Rattle.std.specs.Prelude.{codes, nat_lt}
+use Rattle.std.specs.List.{list_all}
+use Rattle.std.specs.Str.{IsAscii, IsUtf8, chars}
+use Rattle.std.proofs.lemmas.Bool.{and_parts, ltb-true}
+use Rattle.std.proofs.lemmas.Str.{IsUtf8-from_ascii, chars-IsAscii, encodes-chars}
+use Rattle.ob0_scan.specs.declared.lexeme.Reserved.{Reserved}
+use Rattle.ob0_scan.specs.declared.lexeme.Reserved.TheVariants as reserved
+use Rattle.ob0_scan.specs.declared.lexeme.Symbol.{Symbol}
+use Rattle.ob0_scan.specs.declared.lexeme.Symbol.TheVariants as symbol
+use Rattle.ob0_scan.specs.declared.lexeme.TokenKind.TheVariants as token
+use Rattle.ob0_scan.specs.declared.lexeme.LexemeKind.TheVariants as lexeme
+use Rattle.ob0_scan.specs.Classes.{reserved_text, symbol_text}
+use Rattle.ob0_scan.specs.Lexed.{Lexeme, joined}
+use Rattle.ob0_scan.specs.Scanned.{Scanned, IsScan, comments_from, tokens_from}
+use Rattle.ob0_world_worked.specs.WorkedText.{worked_text}
+use Rattle.ob0_world_worked.proofs.LexemeTests.{are_apart, lexed_so}
+
+-- ---- ASCII
+
+abbrev pub is_ascii_text : List ℕ → Bool
+is_ascii_text bytes = list_all (λ b. nat_lt b 128) bytes
+
+pub ascii_of : (bytes : List ℕ) → is_ascii_text bytes ≡ true → IsAscii bytes
+ascii_of [] h i = omega (arith)
+ascii_of (b ∷ bs) h zero = ltb-true b 128 (and_parts (nat_lt b 128) (is_ascii_text bs) h).0
+ascii_of (b ∷ bs) h (suc i) = ascii_of bs (and_parts (nat_lt b 128) (is_ascii_text bs) h).1 i
+
+pub utf8_so : (bytes : List ℕ) → is_ascii_text bytes ≡ true → IsUtf8 bytes
+utf8_so bytes h = IsUtf8-from_ascii bytes (ascii_of bytes h)
+
+pub chars_so : (bytes : List ℕ) → is_ascii_text bytes ≡ true → chars bytes ≡ bytes
+chars_so bytes h = chars-IsAscii bytes (ascii_of bytes h)
+
+pub bytes_so : (bytes : List ℕ) → is_ascii_text bytes ≡ true → encode_utf8_all bytes ≡ bytes
+bytes_so bytes h = sym (ap encode_utf8_all (chars_so bytes h)) ∙ encodes-chars bytes (utf8_so bytes h)
+
+-- ---- lexemes
+
+abbrev pub word : Reserved → Lexeme
+word w = record { kind = lexeme.Token (token.Reserved w); text = reserved_text w }
+
+abbrev pub mark : Symbol → Lexeme
+mark s = record { kind = lexeme.Token (token.Symbol s); text = symbol_text s }
+
+abbrev pub name : List ℕ → Lexeme
+name text = record { kind = lexeme.Token token.Identifier; text = text }
+
+abbrev pub white : List ℕ → Lexeme
+white text = record { kind = lexeme.Space; text = text }
+
+abbrev pub space : Lexeme
+space = white (32 ∷ [])
+
+abbrev pub newline : Lexeme
+newline = white (10 ∷ [])
+
+abbrev pub indented : Lexeme
+indented = white (10 ∷ 32 ∷ 32 ∷ [])
+
+abbrev pub two : Lexeme
+two = record { kind = lexeme.Token (token.Integer 2); text = codes "2" }
+
+-- the text with these lexemes for the declaration of the constant, the name of the variable and the value that it gets
+abbrev pub lexemes_with : List Lexeme → List ℕ → Lexeme → List Lexeme
+lexemes_with declaration x value =
+    (word reserved.Module ∷ space ∷ name (codes "M") ∷ mark symbol.Semicolon ∷ newline ∷ word reserved.Const ∷ [])
+    ++ (declaration
+    ++ (word reserved.Var ∷ indented ∷ name x ∷ mark symbol.Colon ∷ space ∷ name (codes "INTEGER") ∷ mark symbol.Semicolon ∷ newline
+    ∷ word reserved.Begin ∷ indented ∷ name x ∷ space ∷ mark symbol.Becomes ∷ space ∷ value ∷ mark symbol.Semicolon ∷ indented
+    ∷ name (codes "Write") ∷ mark symbol.LeftParen ∷ name x ∷ mark symbol.RightParen ∷ newline
+    ∷ word reserved.End ∷ space ∷ name (codes "M") ∷ mark symbol.Dot ∷ newline ∷ []))
+
+abbrev pub declares_n : List Lexeme
+declares_n = indented ∷ name (codes "n") ∷ space ∷ mark symbol.Equal ∷ space ∷ two ∷ mark symbol.Semicolon ∷ newline ∷ []
+
+abbrev pub worked_lexemes : List Lexeme
+worked_lexemes = lexemes_with declares_n (codes "x") (name (codes "n"))
+
+abbrev pub renamed_lexemes : List Lexeme
+renamed_lexemes = lexemes_with declares_n (codes "y") (name (codes "n"))
+
+abbrev pub inlined_lexemes : List Lexeme
+inlined_lexemes = lexemes_with declares_n (codes "x") two
+
+abbrev pub without_lexemes : List Lexeme
+without_lexemes = lexemes_with (white (10 ∷ 32 ∷ 32 ∷ 10 ∷ []) ∷ []) (codes "x") two
+
+-- ---- scans
+
+abbrev pub scanned_of : List Lexeme → Scanned
+scanned_of ls = record { text = joined ls; tokens = tokens_from 0 ls; comments = comments_from 0 ls }
+
+pub scan_so : (ls : List Lexeme) → is_ascii_text (joined ls) ≡ true → length (joined ls) ≤ 1048576 → are_apart ls ≡ true → IsScan (scanned_of ls)
+scan_so ls ascii short apart =
+    record { utf8 = utf8_so (joined ls) ascii; short = short; lexemes = ls; lexed = lexed_so (joined ls) ls refl apart; tokens = refl; comments = refl }
+
+pub worked_is : joined worked_lexemes ≡ worked_text
+worked_is = refl
+
+pub worked_short : length worked_text ≤ 1048576
+worked_short = let l : length worked_text ≡ 77 = refl in omega (arith, l)
+
+pub worked_scan : IsScan (scanned_of worked_lexemes)
+worked_scan = scan_so worked_lexemes refl worked_short refl
+
+pub renamed_scan : IsScan (scanned_of renamed_lexemes)
+renamed_scan = scan_so renamed_lexemes refl (let l : length (joined renamed_lexemes) ≡ 77 = refl in omega (arith, l)) refl
+
+pub inlined_scan : IsScan (scanned_of inlined_lexemes)
+inlined_scan = scan_so inlined_lexemes refl (let l : length (joined inlined_lexemes) ≡ 77 = refl in omega (arith, l)) refl
+
+pub without_scan : IsScan (scanned_of without_lexemes)
+without_scan = scan_so without_lexemes refl (let l : length (joined without_lexemes) ≡ 71 = refl in omega (arith, l)) refl

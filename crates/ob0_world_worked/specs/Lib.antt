@@ -1,0 +1,4 @@
+pub mod WorkedText
+pub mod WorkedAnswers
+pub mod Formatting
+pub mod WorkedExchange

@@ -1,0 +1,44 @@
+-- States the answers to four asks about one text.
+-- Rule: docs/PROTOCOL.md, Requests on documents 6, 9; worked examples.
+use Rattle.std.specs.Prelude.{◌≡◌, ◌↔◌, ℕ, List, [], ◌∷◌, codes}
+use Rattle.ob0_text.specs.declared.position_types.Range.{Range}
+use Rattle.ob0_text.specs.declared.position_types.Unit.TheVariants.{Utf16}
+use Rattle.ob0_text.specs.declared.refusals.EditRefusal.TheVariants.{Captures}
+use Rattle.ob0_edits.specs.Renamings.{IsRefusedIn}
+use Rattle.ob0_world_rules.specs.Asks.{Ask, rename, inline_here, inline_all}
+use Rattle.ob0_world_rules.specs.Answers.{AnswersFor}
+use Rattle.ob0_world_rules.specs.Edited.{Replacement}
+use Rattle.ob0_world_worked.specs.WorkedText.{at, worked_text}
+
+-- the range between two characters of a line
+abbrev pub on_line : ℕ → ℕ → ℕ → Range
+on_line line from to = record { start = at line from; end = at line to }
+
+-- replaces a part of a line
+abbrev pub replaces : ℕ → ℕ → ℕ → List ℕ → Replacement
+replaces line from to new = record { range = on_line line from to; text = new }
+
+-- states that the ask about the worked text is answered by these edits, and by no others
+abbrev pub IsAnsweredBy : Ask → List Replacement → Type 0
+IsAnsweredBy ask edits =
+    (given : List Replacement) → AnswersFor Utf16 worked_text ask given ↔ (given ≡ edits)
+
+-- x is renamed to y at its declaration and at both uses
+abbrev pub ARename : Type 0
+ARename =
+    IsAnsweredBy (rename (at 4 2) (codes "y"))
+    (replaces 4 2 3 (codes "y") ∷ replaces 6 2 3 (codes "y") ∷ replaces 7 8 9 (codes "y") ∷ [])
+
+-- a variable of the name Write would capture the call of Write, so there are no edits
+pub record ACapture : Type 0 where
+  pub refused : IsRefusedIn Utf16 worked_text (at 4 2) (codes "Write") (Captures (on_line 7 2 7))
+  pub no_edits : IsAnsweredBy (rename (at 4 2) (codes "Write")) []
+
+-- the use of n becomes its value
+abbrev pub AnInlining : Type 0
+AnInlining = IsAnsweredBy (inline_here (at 6 7)) (replaces 6 7 8 (codes "2") ∷ [])
+
+-- n loses its declaration, and its use becomes its value
+abbrev pub AnInliningEverywhere : Type 0
+AnInliningEverywhere =
+    IsAnsweredBy (inline_all (at 6 7)) (replaces 2 2 8 [] ∷ replaces 6 7 8 (codes "2") ∷ [])
