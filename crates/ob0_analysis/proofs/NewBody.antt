@@ -2,6 +2,7 @@
 -- reason is that only one tree has this spelling.
 use Rattle.std.proofs.Common.{◌≡◌, ◌<◌, ◌≤◌, ◌+◌, ◌-◌, ℕ, zero, suc, Bool, true, false, nat_lt, if◌then◌else◌, Option, Some, List, [], ◌∷◌, ◌++◌, map, take, drop, length, slice_get, refl, sym, ap, ◌∙◌, subst, arith, append_assoc, length-append, ⊎_elim}
 use Rattle.std.proofs.lemmas.List.{drop-drop, drop_at, map-append, take-take, take_at}
+use Rattle.std.proofs.lemmas.Bool.{le-ltb}
 use Rattle.ob0_scan.specs.declared.lexeme.TokenKind.{TokenKind}
 use Rattle.ob0_scan.specs.declared.lexeme.TokenKind.TheVariants as kind
 use Rattle.ob0_scan.specs.declared.lexeme.Reserved.TheVariants as reserved
@@ -28,7 +29,6 @@ use Rattle.ob0_scope_table.specs.BodyReplaced.{IsBodyReplaced, Way, body_at, clo
 use Rattle.ob0_scope_table.specs.OneBody.{is_out}
 use Rattle.ob0_scope_table.proofs.BodyPlaces.{body_place_read}
 use Rattle.ob0_scope_table.proofs.Moved.{moved_above, moved_below, out_cases}
-use Rattle.ob0_scope_table.proofs.OneBody.{less_false}
 use Rattle.ob0_scope_table.specs.declared.one_body.BodyPlace.{BodyPlace}
 use Rattle.ob0_scope_table.specs.declared.resolved.Bindings.{Bindings}
 use Rattle.ob0_types.specs.NewBody.{WereTypesElsewhere}
@@ -157,7 +157,7 @@ module _ (s : SameTokens) (old_range : s.prefix ≤ s.old_suffix) (new_range : s
     where
       one : (b : Bool) → nat_lt c s.prefix ≡ b → nat_lt (if b then c else s.new_suffix + (c - s.old_suffix)) s.prefix ≡ b
       one true e = e
-      one false e = less_false (s.new_suffix + (c - s.old_suffix)) s.prefix (omega (arith, new_range))
+      one false e = le-ltb (s.new_suffix + (c - s.old_suffix)) s.prefix (omega (arith, new_range))
 
   -- The way to the body in the new module is the way in the old module.
   same_way : (old new : Parsed) → without (way_to s.prefix (tree_of new)) (tree_of new) ≡ mapped (moved s) (moved s) (without (way_to s.prefix (tree_of old)) (tree_of old)) → way_to s.prefix (tree_of new) ≡ way_to s.prefix (tree_of old)

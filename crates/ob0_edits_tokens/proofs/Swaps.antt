@@ -17,11 +17,12 @@ use Rattle.ob0_scan.specs.Lexed.{Lexeme, joined}
 use Rattle.ob0_scan.specs.Ends.{continues, AreApart}
 use Rattle.ob0_scan.specs.Scanned.{Word, word_of, words, span_from, token_at, tokens_from}
 use Rattle.ob0_scan.proofs.Cuts.{nonempty}
+use Rattle.ob0_scan.proofs.Reusing.{joined_append}
 use Rattle.ob0_text.specs.Patches.{Cut, pieced}
 use Rattle.ob0_edits_tokens.specs.Changed.{changed_words, at_each, is_among, or_itself}
 use Rattle.ob0_edits_tokens.specs.Replaced as place
 use Rattle.ob0_edits_tokens.specs.Replaced.{AreNames, span_at, cut_of, AreInOrder, ReplacesName}
-use Rattle.ob0_edits_tokens.proofs.Ends.{joined-append, append_apart}
+use Rattle.ob0_edits_tokens.proofs.Ends.{append_apart}
 
 abbrev pub make_word : TokenKind → List ℕ → Word
 make_word kind text = record { kind = kind; text = text }
@@ -161,12 +162,12 @@ module _ (text : List ℕ) (tokens : List Token) (new : List ℕ) (ws : List Wor
       let last_at : (span_at tokens k).end - 1 ≡ at + (length l.text - 1) = omega (arith, to, some) in
       let begins : get_or (joined (l ∷ ls)) 0 0 ≡ get_or l.text 0 0 = first_of l.text (joined ls) some in
       let begun : get_or (joined (replaces.lexemes ++ tail.lexemes)) 0 0 ≡ get_or new 0 0 =
-      ap (λ t. get_or t 0 0) (joined-append replaces.lexemes tail.lexemes ∙ ap (λ t. t ++ joined tail.lexemes) replaces.whole) ∙ first_of new (joined tail.lexemes) replaces.some in
+      ap (λ t. get_or t 0 0) (joined_append replaces.lexemes tail.lexemes ∙ ap (λ t. t ++ joined tail.lexemes) replaces.whole) ∙ first_of new (joined tail.lexemes) replaces.some in
       record {
         lexemes = replaces.lexemes ++ tail.lexemes;
         apart = append_apart replaces.lexemes tail.lexemes (replaces.apart (get_or (joined tail.lexemes) 0 0) stops) tail.apart;
         read = words-append replaces.lexemes tail.lexemes ∙ ap₂ (λ xs ys. xs ++ ys) replaces.read tail.read ∙ ap (λ t. ws ++ t) (sym (past k ps ws (suc k) (words ls) (omega arith))) ∙ sym gone;
-        whole = joined-append replaces.lexemes tail.lexemes ∙ ap₂ (λ xs ys. xs ++ ys) replaces.whole tail.whole ∙ sym (pieced_here text at (cut_of tokens new k) (at + length l.text) (map (cut_of tokens new) ps) from to);
+        whole = joined_append replaces.lexemes tail.lexemes ∙ ap₂ (λ xs ys. xs ++ ys) replaces.whole tail.whole ∙ sym (pieced_here text at (cut_of tokens new k) (at + length l.text) (map (cut_of tokens new) ps) from to);
         front = λ kind h. ap (continues kind) begun ∙ replaces.front kind (get_or l.text 0 0) belongs.word.letter (sym (ap (continues kind) begins) ∙ h);
         chain = (omega (arith, from), omega (arith, from, to, some), subst (λ n. Chain n (map (cut_of tokens new) ps)) (sym to) tail.chain);
         clear = (

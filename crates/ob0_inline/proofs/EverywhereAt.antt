@@ -7,6 +7,7 @@ use Rattle.ob0_scan.specs.Scanned.{Word}
 use Rattle.ob0_tree.specs.Order.{AreIdentifiers, Ascending}
 use Rattle.ob0_tree.specs.Parsed.{named_tree_of, tree_of}
 use Rattle.ob0_tree.specs.Tree.{Tree, factor, occurrences, spell}
+use Rattle.ob0_tree.proofs.Leaves.{ascending_lower}
 use Rattle.ob0_edits_tokens.specs.Changed.{at_each, changed_words, is_among, words_of}
 use Rattle.ob0_edits_tokens.specs.OfTrees.{numbered_tokens}
 use Rattle.ob0_edits_tokens.specs.Removed.{without_words}
@@ -26,7 +27,7 @@ use Rattle.ob0_inline.proofs.UsesFollow.{late_of, uses_following}
 use Rattle.ob0_inline.proofs.Late.{Late}
 use Rattle.ob0_scope_table.proofs.Declared.{names_in}
 use Rattle.ob0_inline.proofs.TakenOut.{gone_module}
-use Rattle.ob0_inline.proofs.UsesAreIdentifiers.{AreBound, lowered, names_from, others_spelled, uses_are_identifiers, uses_ascend}
+use Rattle.ob0_inline.proofs.UsesAreIdentifiers.{AreBound, names_from, others_spelled, uses_are_identifiers, uses_ascend}
 use Rattle.ob0_inline.proofs.WordsLeft.{first_token, last_token, words_left}
 
 -- returns the tokens that are bound to d
@@ -37,7 +38,7 @@ bound_ascend : (ordinals : List (Option ℕ)) (d low high : ℕ) (is : List ℕ)
 bound_ascend ordinals d low high [] a = a
 bound_ascend ordinals d low high (i ∷ is) a =
     elim (same_ordinal (ordinal_in ordinals i) d) as (λ b. Ascending low (cond b (i ∷ bound_tokens ordinals d is) (bound_tokens ordinals d is)) high)
-    [ true ↦ (a.0, bound_ascend ordinals d (i + 1) high is a.1) | false ↦ lowered low (i + 1) high (bound_tokens ordinals d is) (omega (arith, a.0)) (bound_ascend ordinals d (i + 1) high is a.1) ]
+    [ true ↦ (a.0, bound_ascend ordinals d (i + 1) high is a.1) | false ↦ ascending_lower low (i + 1) (bound_tokens ordinals d is) high (omega (arith, a.0)) (bound_ascend ordinals d (i + 1) high is a.1) ]
 
 bound_are_identifiers : (ts : List Token) (ordinals : List (Option ℕ)) (d : ℕ) (is : List ℕ) → AreIdentifiers ts is → AreIdentifiers ts (bound_tokens ordinals d is)
 bound_are_identifiers ts ordinals d [] h = tt

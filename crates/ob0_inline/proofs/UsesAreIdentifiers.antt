@@ -12,7 +12,7 @@ use Rattle.ob0_tree.specs.Parsed.{named_tree_of, tree_of}
 use Rattle.ob0_tree.specs.Places as leaf
 use Rattle.ob0_tree.specs.Lexeme.{Terminal}
 use Rattle.ob0_tree.specs.Tree.{Tree, factor, identifiers, mapped, occurrences, spell}
-use Rattle.ob0_tree.proofs.Leaves.{leaves_are_identifiers, leaves_ascend}
+use Rattle.ob0_tree.proofs.Leaves.{leaves_are_identifiers, leaves_ascend, ascending_lower}
 use Rattle.ob0_tree.proofs.Occurring.{looked_up_only, looked_up-occurrences}
 use Rattle.ob0_edits_tokens.specs.Changed.{is_among}
 use Rattle.ob0_edits_tokens.specs.OfTrees.{number_at, text_of_word}
@@ -37,15 +37,11 @@ names_from ts low high (i ∷ is) a h =
     let next : i + 1 ≡ suc i = omega arith in
     (a.0, h.0.0, h.0.1 _, subst (λ n. AreNames ts n is) next (names_from ts (i + 1) high is a.1 h.1))
 
-pub lowered : (low higher high : ℕ) (xs : List ℕ) → low ≤ higher → Ascending higher xs high → Ascending low xs high
-lowered low higher high [] le a = omega (arith, le, a)
-lowered low higher high (x ∷ xs) le a = (omega (arith, le, a.0), a.1)
-
 -- The identifiers of a module that are looked up ascend.
 looked_up_ascend : (low high : ℕ) (xs : List (Role × ℕ)) → Ascending low (names_only xs) high → Ascending low (looked_up_only xs) high
 looked_up_ascend low high [] a = a
 looked_up_ascend low high ((role.LookedUp, i) ∷ xs) a = (a.0, looked_up_ascend (i + 1) high xs a.1)
-looked_up_ascend low high ((_, i) ∷ xs) a = lowered low (i + 1) high _ (omega (arith, a.0)) (looked_up_ascend (i + 1) high xs a.1)
+looked_up_ascend low high ((_, i) ∷ xs) a = ascending_lower low (i + 1) _ high (omega (arith, a.0)) (looked_up_ascend (i + 1) high xs a.1)
 
 looked_up_are_identifiers : (ts : List Token) (xs : List (Role × ℕ)) → AreIdentifiers ts (names_only xs) → AreIdentifiers ts (looked_up_only xs)
 looked_up_are_identifiers ts [] h = tt

@@ -9,6 +9,7 @@ use Rattle.std.proofs.lemmas.Bool.{or_parts}
 use Rattle.ob0_tree.specs.Tree.{Tree, module_text}
 use Rattle.ob0_language_names.specs.Names.{Name, same_name}
 use Rattle.ob0_language_names.specs.Scopes.{same_ordinal}
+use Rattle.ob0_language_names.proofs.NameEquality.{same_name-refl}
 use Rattle.ob0_language_types.specs.WellTyped.{WellTyped}
 use Rattle.ob0_language_runs.specs.EditLaws.{SameRuns}
 use Rattle.ob0_language_fields.specs.Fields.{FieldNames, refielded}
@@ -17,9 +18,6 @@ use Rattle.ob0_language_fields.specs.Renaming.{FieldFree, RecordFields, field_re
 use Rattle.ob0_language_fields.proofs.AgreeingFields.{NamesAgree, RecordsAgree}
 use Rattle.ob0_language_fields.proofs.AgreeingModules.{module-alike}
 use Rattle.ob0_language_field_laws.proofs.Proved.{refielding_keeps_modules-holds}
-
-same_name-refl : (x : Name) → same_name x x ≡ true
-same_name-refl x = (bytes_eq-Decides x x).1 refl
 
 same_name-is : (x y : Name) → same_name x y ≡ true → x ≡ y
 same_name-is x y e = (bytes_eq-Decides x y).0 e

@@ -23,7 +23,7 @@ or-swap true true c = refl
 or-swap true false c = refl
 or-swap false b c = refl
 
-and-swap : (a p q d : Bool) → (not (a || p) && (not q && d)) ≡ (not (a || q) && (not p && d))
+pub and-swap : (a p q d : Bool) → (not (a || p) && (not q && d)) ≡ (not (a || q) && (not p && d))
 and-swap true p q d = refl
 and-swap false true true d = refl
 and-swap false true false d = refl

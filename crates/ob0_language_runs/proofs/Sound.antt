@@ -15,16 +15,13 @@ use Rattle.ob0_language_types.specs.Typing.{add_type, complement_type, element_t
 use Rattle.ob0_language_values.specs.Values.{FieldShapes, Index, Members, Outcome, Overflow, Place, Shape, Step, Store, Value, Values, add, add_is_settled, array_shape, at_field, at_index, at_path, boolean_shape, count_values, divided, divided_by, elements, ends, fits, gives, in_range, integer_shape, members, multiply, multiply_is_settled, named_member, negate, next_field_shape, next_member, next_value, no_field_shape, no_member, no_value, nth_value, number, or_stuck, part, quotient, read_place, record_shape, relate, remainder, apply_sign, truth, ◌>>=◌}
 use Rattle.ob0_language_types.specs.WellTyped.{Mode, Signature, Typed}
 use Rattle.ob0_language_types.proofs.Conditions.{of_some}
+use Rattle.ob0_language_types.proofs.TypedElsewhere.{then_some}
 use Rattle.ob0_language_runs.specs.Fitting.{EachHasShape, HasShape, HaveShapes, MeaningsFit, ObjectFits, PlaceFits, StoreFits, StoreTyping, part_shape, shape_at_path}
 use Rattle.ob0_language_runs.proofs.Soundness.{OutcomeFits}
 
 pub fits-then : {A B : Type 0} (P : A → Type 0) (Q : B → Type 0) (o : Outcome A) (next : A → Outcome B) → OutcomeFits P o → ((a : A) → P a → OutcomeFits Q (next a)) → OutcomeFits Q (o >>= next)
 fits-then P Q (gives a) next h each = each a h
 fits-then P Q (ends e) next h each = h
-
-pub some-gives : {A B : Type 0} (o : Option A) (next : A → Option B) (b : B) → option_and_then next o ≡ Some b → (a : A) × (o ≡ Some a) × (next a ≡ Some b)
-some-gives None next b h = absurd (cc)
-some-gives (Some a) next b h = (a, refl, h)
 
 pub in_range-fits : (n : ℤ) → OutcomeFits (λ v. HasShape v integer_shape) (in_range n)
 in_range-fits n = elim (fits n) as (λ b. OutcomeFits (λ v. HasShape v integer_shape) (if b then gives (number n) else ends Overflow)) [ true ↦ tt | false ↦ λ e. cc ]
@@ -134,7 +131,7 @@ part-fits _ _ step t h e = absurd h
 pub path-fits : (path : List Step) (v : Value) (s t : Shape) → HasShape v s → shape_at_path path s ≡ Some t → (w : Value) × (at_path path v ≡ Some w) × HasShape w t
 path-fits [] v s t h e = (v, refl, of_some (λ t. HasShape v t) e h)
 path-fits (step ∷ path) v s t h e =
-    let (u, eu, e₁) = some-gives (part_shape s step) (shape_at_path path) t e in
+    let (u, eu, e₁) = then_some (part_shape s step) (shape_at_path path) t e in
     let (w, ew, hw) = part-fits v s step u h eu in
     let (z, ez, hz) = path-fits path w u t hw e₁ in
     (z, ap (option_and_then (at_path path)) ew ∙ ez, hz)
@@ -147,7 +144,7 @@ variable-fits _ _ n s h e = absurd h
 
 pub place-fits : (typing : StoreTyping) (store : Store) (p : Place) (s : Shape) → StoreFits typing store → PlaceFits typing p s → (v : Value) × (read_place store p ≡ Some v) × HasShape v s
 place-fits typing store p s h e =
-    let (t, et, e₁) = some-gives (slice_get typing p.variable) (shape_at_path p.path) s e in
+    let (t, et, e₁) = then_some (slice_get typing p.variable) (shape_at_path p.path) s e in
     let (v, ev, hv) = variable-fits typing store p.variable t h et in
     let (w, ew, hw) = path-fits p.path v t s hv e₁ in
     (w, ap (option_and_then (at_path p.path)) ev ∙ ew, hw)
@@ -209,16 +206,16 @@ mutual
       → type_of checked e ≡ Some s → OutcomeFits (λ v. HasShape v s) (evaluate active store e)
   evaluate-sound typing checked active store f (compares a none) s h = evaluate_simple-sound typing checked active store f a s h
   evaluate-sound typing checked active store f (compares a (one (relates r b))) s h =
-      let (x, ex, h₁) = some-gives (type_of_simple checked a) (λ x. option_and_then (relation_type r x) (type_of_simple checked b)) s h in
-      let (y, ey, h₂) = some-gives (type_of_simple checked b) (relation_type r x) s h₁ in
+      let (x, ex, h₁) = then_some (type_of_simple checked a) (λ x. option_and_then (relation_type r x) (type_of_simple checked b)) s h in
+      let (y, ey, h₂) = then_some (type_of_simple checked b) (relation_type r x) s h₁ in
       fits-then (λ v. HasShape v x) (λ v. HasShape v s) (evaluate_simple active store a) (λ v. evaluate_simple active store b >>= relate r v) (evaluate_simple-sound typing checked active store f a x ex)
       (λ v hv. fits-then (λ w. HasShape w y) (λ v. HasShape v s) (evaluate_simple active store b) (relate r v) (evaluate_simple-sound typing checked active store f b y ey) (λ w hw. relate-fits r x y s v w h₂ hv hw))
 
   pub evaluate_simple-sound : {N : Type 0} (typing : StoreTyping) (checked : Typed N) (active : Meanings N Place (List Mode)) (store : Store) → Fitting typing checked active store → (a : Tree N simple) (s : Shape)
       → type_of_simple checked a ≡ Some s → OutcomeFits (λ v. HasShape v s) (evaluate_simple active store a)
   evaluate_simple-sound typing checked active store f (sum sign t rest) s h =
-      let (x, ex, h₁) = some-gives (type_of_term checked t) (λ x. option_and_then (λ y. type_of_addends checked y rest) (sign_type sign x)) s h in
-      let (y, ey, h₂) = some-gives (sign_type sign x) (λ y. type_of_addends checked y rest) s h₁ in
+      let (x, ex, h₁) = then_some (type_of_term checked t) (λ x. option_and_then (λ y. type_of_addends checked y rest) (sign_type sign x)) s h in
+      let (y, ey, h₂) = then_some (sign_type sign x) (λ y. type_of_addends checked y rest) s h₁ in
       fits-then (λ v. HasShape v x) (λ v. HasShape v s) (evaluate_term active store t) (λ v. apply_sign sign v >>= (λ w. evaluate_addends active store w rest)) (evaluate_term-sound typing checked active store f t x ex)
       (λ v hv. fits-then (λ w. HasShape w y) (λ v. HasShape v s) (apply_sign sign v) (λ w. evaluate_addends active store w rest) (apply_sign-fits sign x y v ey hv)
       (λ w hw. evaluate_addends-sound typing checked active store f w y rest s hw h₂))
@@ -227,8 +224,8 @@ mutual
       → HasShape v x → type_of_addends checked x a ≡ Some s → OutcomeFits (λ v. HasShape v s) (evaluate_addends active store v a)
   evaluate_addends-sound typing checked active store f v x end s hv h = of_some (λ s. HasShape v s) h hv
   evaluate_addends-sound typing checked active store f v x (more (adds o t) rest) s hv h =
-      let (y, ey, h₁) = some-gives (type_of_term checked t) (λ y. option_and_then (λ z. type_of_addends checked z rest) (add_type o x y)) s h in
-      let (z, ez, h₂) = some-gives (add_type o x y) (λ z. type_of_addends checked z rest) s h₁ in
+      let (y, ey, h₁) = then_some (type_of_term checked t) (λ y. option_and_then (λ z. type_of_addends checked z rest) (add_type o x y)) s h in
+      let (z, ez, h₂) = then_some (add_type o x y) (λ z. type_of_addends checked z rest) s h₁ in
       fits-then (λ w. HasShape w z) (λ v. HasShape v s) (elim (add_is_settled o v) [ true ↦ gives v | false ↦ evaluate_term active store t >>= add o v ]) (λ w. evaluate_addends active store w rest)
       (settled-fits (λ w. HasShape w z) (add_is_settled o v) v (evaluate_term active store t >>= add o v) (of_some (λ s. HasShape v s) (add_type-first o x y z ez) hv)
       (fits-then (λ w. HasShape w y) (λ w. HasShape w z) (evaluate_term active store t) (add o v) (evaluate_term-sound typing checked active store f t y ey) (λ w hw. add-fits o x y z v w ez hv hw)))
@@ -237,7 +234,7 @@ mutual
   pub evaluate_term-sound : {N : Type 0} (typing : StoreTyping) (checked : Typed N) (active : Meanings N Place (List Mode)) (store : Store) → Fitting typing checked active store → (a : Tree N term) (s : Shape)
       → type_of_term checked a ≡ Some s → OutcomeFits (λ v. HasShape v s) (evaluate_term active store a)
   evaluate_term-sound typing checked active store f (product a rest) s h =
-      let (x, ex, h₁) = some-gives (type_of_factor checked a) (λ x. type_of_multipliers checked x rest) s h in
+      let (x, ex, h₁) = then_some (type_of_factor checked a) (λ x. type_of_multipliers checked x rest) s h in
       fits-then (λ v. HasShape v x) (λ v. HasShape v s) (evaluate_factor active store a) (λ v. evaluate_multipliers active store v rest) (evaluate_factor-sound typing checked active store f a x ex)
       (λ v hv. evaluate_multipliers-sound typing checked active store f v x rest s hv h₁)
 
@@ -245,8 +242,8 @@ mutual
       → HasShape v x → type_of_multipliers checked x a ≡ Some s → OutcomeFits (λ v. HasShape v s) (evaluate_multipliers active store v a)
   evaluate_multipliers-sound typing checked active store f v x end s hv h = of_some (λ s. HasShape v s) h hv
   evaluate_multipliers-sound typing checked active store f v x (more (multiplies o a) rest) s hv h =
-      let (y, ey, h₁) = some-gives (type_of_factor checked a) (λ y. option_and_then (λ z. type_of_multipliers checked z rest) (multiply_type o x y)) s h in
-      let (z, ez, h₂) = some-gives (multiply_type o x y) (λ z. type_of_multipliers checked z rest) s h₁ in
+      let (y, ey, h₁) = then_some (type_of_factor checked a) (λ y. option_and_then (λ z. type_of_multipliers checked z rest) (multiply_type o x y)) s h in
+      let (z, ez, h₂) = then_some (multiply_type o x y) (λ z. type_of_multipliers checked z rest) s h₁ in
       fits-then (λ w. HasShape w z) (λ v. HasShape v s) (elim (multiply_is_settled o v) [ true ↦ gives v | false ↦ evaluate_factor active store a >>= multiply o v ]) (λ w. evaluate_multipliers active store w rest)
       (settled-fits (λ w. HasShape w z) (multiply_is_settled o v) v (evaluate_factor active store a >>= multiply o v) (of_some (λ s. HasShape v s) (multiply_type-first o x y z ez) hv)
       (fits-then (λ w. HasShape w y) (λ w. HasShape w z) (evaluate_factor active store a) (multiply o v) (evaluate_factor-sound typing checked active store f a y ey) (λ w hw. multiply-fits o x y z v w ez hv hw)))
@@ -255,7 +252,7 @@ mutual
   pub evaluate_factor-sound : {N : Type 0} (typing : StoreTyping) (checked : Typed N) (active : Meanings N Place (List Mode)) (store : Store) → Fitting typing checked active store → (a : Tree N factor) (s : Shape)
       → type_of_factor checked a ≡ Some s → OutcomeFits (λ v. HasShape v s) (evaluate_factor active store a)
   evaluate_factor-sound typing checked active store f (designator x path) s h =
-      let (t, et, h₁) = some-gives (object_type (checked.object_for x)) (λ t. type_at checked t path) s h in
+      let (t, et, h₁) = then_some (object_type (checked.object_for x)) (λ t. type_at checked t path) s h in
       fits-then (λ v. HasShape v t) (λ v. HasShape v s) (object_value store (active.object_for x)) (λ v. follow active store v path >>= (λ steps. or_stuck (at_path steps v)))
       (object-fits typing store (checked.object_for x) (active.object_for x) t f.store_fits (f.names_fit.0 x) et)
       (λ v hv. fits-then (λ steps. shape_at_path steps t ≡ Some s) (λ v. HasShape v s) (follow active store v path) (λ steps. or_stuck (at_path steps v)) (follow-sound typing checked active store f v t path s hv h₁)
@@ -263,14 +260,14 @@ mutual
   evaluate_factor-sound typing checked active store f (integer n) s h = of_some (λ s. HasShape (number (pos n)) s) h tt
   evaluate_factor-sound typing checked active store f (parenthesised e) s h = evaluate-sound typing checked active store f e s h
   evaluate_factor-sound typing checked active store f (negation a) s h =
-      let (x, ex, h₁) = some-gives (type_of_factor checked a) complement_type s h in
+      let (x, ex, h₁) = then_some (type_of_factor checked a) complement_type s h in
       fits-then (λ v. HasShape v x) (λ v. HasShape v s) (evaluate_factor active store a) negate (evaluate_factor-sound typing checked active store f a x ex) (λ v hv. negate-fits x s v h₁ hv)
 
   pub follow-sound : {N : Type 0} (typing : StoreTyping) (checked : Typed N) (active : Meanings N Place (List Mode)) (store : Store) → Fitting typing checked active store → (v : Value) (t : Shape) (path : Tree N (items selector)) (s : Shape)
       → HasShape v t → type_at checked t path ≡ Some s → OutcomeFits (λ steps. shape_at_path steps t ≡ Some s) (follow active store v path)
   follow-sound typing checked active store f v t end s hv h = h
   follow-sound typing checked active store f v t (more (field x) rest) s hv h =
-      let (u, eu, h₁) = some-gives (field_type t (checked.written x)) (λ u. type_at checked u rest) s h in
+      let (u, eu, h₁) = then_some (field_type t (checked.written x)) (λ u. type_at checked u rest) s h in
       let eu' : part_shape t (at_field (checked.written x)) ≡ Some u = field_part t (checked.written x) u eu in
       let (w, ew, hw) = part-fits v t (at_field (checked.written x)) u hv eu' in
       subst (λ y. OutcomeFits (λ steps. shape_at_path steps t ≡ Some s) (or_stuck (part v (at_field y)) >>= (λ w. follow active store w rest >>= (λ steps. gives (at_field y ∷ steps))))) (f.names_fit.1 x)
@@ -278,8 +275,8 @@ mutual
       (λ w hw. fits-then (λ steps. shape_at_path steps u ≡ Some s) (λ steps. shape_at_path steps t ≡ Some s) (follow active store w rest) (λ steps. gives (at_field (checked.written x) ∷ steps)) (follow-sound typing checked active store f w u rest s hw h₁)
       (λ steps e. ap (option_and_then (shape_at_path steps)) eu' ∙ e)))
   follow-sound typing checked active store f v t (more (index e) rest) s hv h =
-      let (i, ei, h₁) = some-gives (type_of checked e) (λ i. option_and_then (λ u. type_at checked u rest) (element_type t i)) s h in
-      let (u, eu, h₂) = some-gives (element_type t i) (λ u. type_at checked u rest) s h₁ in
+      let (i, ei, h₁) = then_some (type_of checked e) (λ i. option_and_then (λ u. type_at checked u rest) (element_type t i)) s h in
+      let (u, eu, h₂) = then_some (element_type t i) (λ u. type_at checked u rest) s h₁ in
       fits-then (λ j. HasShape j i) (λ steps. shape_at_path steps t ≡ Some s) (evaluate active store e) (λ j. element_step v j >>= (λ step. or_stuck (part v step) >>= (λ w. follow active store w rest >>= (λ steps. gives (step ∷ steps))))) (evaluate-sound typing checked active store f e i ei)
       (λ j hj. fits-then (λ step. part_shape t step ≡ Some u) (λ steps. shape_at_path steps t ≡ Some s) (element_step v j) (λ step. or_stuck (part v step) >>= (λ w. follow active store w rest >>= (λ steps. gives (step ∷ steps)))) (element_step-fits v t j i u hv hj eu)
       (λ step es. let (w, ew, hw) = part-fits v t step u hv es in

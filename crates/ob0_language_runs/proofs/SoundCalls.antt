@@ -14,10 +14,10 @@ use Rattle.ob0_language_types.proofs.Literals.{some_inverse}
 use Rattle.ob0_language_types.proofs.TypeNaturality.{constant_value-map, denoted-map}
 use Rattle.ob0_language_types.proofs.TypesByOrdinal.{typed_parameter}
 use Rattle.ob0_language_types.proofs.Conditions.{both_true, hold-true}
+use Rattle.ob0_language_types.proofs.TypedElsewhere.{then_some}
 use Rattle.ob0_language_runs.specs.Laws.{NeverStuck}
 use Rattle.ob0_language_runs.specs.Runs.{Activation, Argument, Calls, ProcedureText, Frame, Parameter, Progress, State, activate, allocate, bind_parameter, bind_parameters, call, declare_block, declare_procedures, declare_variables, execute_all, execute_body, finished, formal_modes, in_frame, parameters, passing, place_argument, run, run_over, running, statement_meanings, stopped, value_argument, with_procedures}
 use Rattle.ob0_language_runs.proofs.ByOrdinal.{with_mode}
-use Rattle.ob0_language_runs.proofs.Sound.{some-gives}
 use Rattle.ob0_language_runs.proofs.SoundStatements.{ObjectFits-grows, PlaceFits-grows, ProgressFits-grown, execute_all-keeps, keeps-here, same_store-fits}
 use Rattle.ob0_language_runs.specs.Fitting.{ArgumentsFit, BindingFits, EnvironmentsFit, EachHasShape, HasShape, HaveShapes, ObjectFits, StoreFits, StoreTyping, modes_in, shape_at_path}
 use Rattle.ob0_language_runs.proofs.Soundness.{CallsFit, ProgressFits}
@@ -33,8 +33,8 @@ pub modes-typed : {N : Type 0} (naming : Naming N) (env : TypeEnvironment N) (k 
 unfolding typed_parameters
 modes-typed naming env k end ps e = ap (λ ps. modes_in (map (λ p. p.formal) ps)) (some_inverse e)
 modes-typed naming env k (more (then_section f) fs) ps e =
-    let (s, es, e₁) = some-gives (denoted (meanings naming env) k (section_type f)) (λ s. option_and_then (λ rest. Some (map (typed_parameter record { mode = (section_mode f); shape = s }) (section_names f) ++ rest)) (typed_parameters naming (bind_names (section_names f) (a_variable s) env) (k + constructors (section_type f)) fs)) ps e in
-    let (rest, er, e₂) = some-gives (typed_parameters naming (bind_names (section_names f) (a_variable s) env) (k + constructors (section_type f)) fs) (λ rest. Some (map (typed_parameter record { mode = (section_mode f); shape = s }) (section_names f) ++ rest)) ps e₁ in
+    let (s, es, e₁) = then_some (denoted (meanings naming env) k (section_type f)) (λ s. option_and_then (λ rest. Some (map (typed_parameter record { mode = (section_mode f); shape = s }) (section_names f) ++ rest)) (typed_parameters naming (bind_names (section_names f) (a_variable s) env) (k + constructors (section_type f)) fs)) ps e in
+    let (rest, er, e₂) = then_some (typed_parameters naming (bind_names (section_names f) (a_variable s) env) (k + constructors (section_type f)) fs) (λ rest. Some (map (typed_parameter record { mode = (section_mode f); shape = s }) (section_names f) ++ rest)) ps e₁ in
     ap (λ ms. map (λ x. (section_mode f)) (section_names f) ++ ms) (modes-typed naming (bind_names (section_names f) (a_variable s) env) (k + constructors (section_type f)) fs rest er)
     ∙ (sym (modes-of_parameters record { mode = (section_mode f); shape = s } (section_names f) rest) ∙ ap (λ ps. modes_in (map (λ p. p.formal) ps)) (some_inverse e₂))
 
@@ -156,7 +156,7 @@ pub constants-run : {N : Type 0} (naming : Naming N) (typing : StoreTyping) (che
 unfolding declare_constants
 constants-run naming typing checked active end after h e = (active, refl, subst (λ c. EnvironmentsFit naming typing c active) (some_inverse {a = checked} {b = after} e) h)
 constants-run {N} naming typing checked active (more (declares_constant x v₀) cs) after h e =
-    let (v, ev, e₁) = some-gives (constant_value (meanings naming checked) v₀) (λ v. declare_constants naming ((x, a_constant v) ∷ checked) cs) after e in
+    let (v, ev, e₁) = then_some (constant_value (meanings naming checked) v₀) (λ v. declare_constants naming ((x, a_constant v) ∷ checked) cs) after e in
     let (d, ed, fit) = constants-run naming typing ((x, a_constant v) ∷ checked) ((x, a_constant v) ∷ active) cs after (refl, refl, h) e₁ in
     (d, ap (option_and_then (λ v. declare_constants naming ((x, a_constant v) ∷ active) cs)) (value-same naming typing checked active h v₀ ∙ ev) ∙ ed, fit)
 
@@ -165,7 +165,7 @@ pub types-run : {N : Type 0} (naming : Naming N) (typing : StoreTyping) (checked
 unfolding declare_types
 types-run naming typing checked active k end after h e = (active, refl, subst (λ c. EnvironmentsFit naming typing c active) (some_inverse {a = checked} {b = after} e) h)
 types-run {N} naming typing checked active k (more (declares_type x u) cs) after h e =
-    let (s, es, e₁) = some-gives (denoted (meanings naming checked) k u) (λ s. declare_types naming ((x, a_type s) ∷ checked) (k + constructors u) cs) after e in
+    let (s, es, e₁) = then_some (denoted (meanings naming checked) k u) (λ s. declare_types naming ((x, a_type s) ∷ checked) (k + constructors u) cs) after e in
     let (d, ed, fit) = types-run naming typing ((x, a_type s) ∷ checked) ((x, a_type s) ∷ active) (k + constructors u) cs after (refl, refl, h) e₁ in
     (d, ap (option_and_then (λ s. declare_types naming ((x, a_type s) ∷ active) (k + constructors u) cs)) (denoted-same naming typing checked active h k u ∙ es) ∙ ed, fit)
 
@@ -195,7 +195,7 @@ pub variables-run : {N : Type 0} (naming : Naming N) (typing : StoreTyping) (che
 unfolding declare_typed declare_variables
 variables-run naming typing checked k end after f store env e = (f, refl, frame-here naming typing after f store (subst (λ c. EnvironmentsFit naming typing c f.env) (some_inverse {a = checked} {b = after} e) env))
 variables-run {N} naming typing checked k (more (declares_variable ns u) ds) after f store env e =
-    let (s, es, e₁) = some-gives (denoted (meanings naming checked) k u) (λ s. declare_typed naming (k + constructors u) ds (bind_names (names_listed ns) (a_variable s) checked)) after e in
+    let (s, es, e₁) = then_some (denoted (meanings naming checked) k u) (λ s. declare_typed naming (k + constructors u) ds (bind_names (names_listed ns) (a_variable s) checked)) after e in
     let inner = allocate-fits naming typing checked (names_listed ns) s (initial s) f (initial-fits s) store env in
     let (g, eg, fit) = variables-run naming (typing ++ inner.0) (bind_names (names_listed ns) (a_variable s) checked) (k + constructors u) ds after (allocate (names_listed ns) (initial s) f) inner.1 inner.2 e₁ in
     (g, ap (option_and_then (λ s. declare_variables naming (k + constructors u) ds (allocate (names_listed ns) (initial s) f))) (denoted-same naming typing checked f.env env k u ∙ es) ∙ eg, frame-grown naming typing inner.0 after g fit)
@@ -216,8 +216,8 @@ unfolding block_fits declare_block
 block-run {N} naming typing checked k (has_body (declares cs ts vs ps) statements) f store env e =
     let b : Tree N block = has_body (declares cs ts vs ps) statements in
     let (inner, e₁, e₂) = hold-true (option_and_then (declare_typed naming (after_types k b) (section_variables vs)) (declare_first naming checked k b)) (λ inner. procedures_fit naming inner (after_variables k b) statements ps) e in
-    let (first, ef, e₃) = some-gives (declare_first naming checked k b) (declare_typed naming (after_types k b) (section_variables vs)) inner e₁ in
-    let (consts, ec, e₄) = some-gives (declare_constants naming checked (section_constants cs)) (λ env. declare_types naming env k (section_types ts)) first ef in
+    let (first, ef, e₃) = then_some (declare_first naming checked k b) (declare_typed naming (after_types k b) (section_variables vs)) inner e₁ in
+    let (consts, ec, e₄) = then_some (declare_constants naming checked (section_constants cs)) (λ env. declare_types naming env k (section_types ts)) first ef in
     let (d₁, ed₁, fit₁) = constants-run naming typing checked f.env (section_constants cs) consts env ec in
     let (d₂, ed₂, fit₂) = types-run naming typing consts d₁ k (section_types ts) first fit₁ e₄ in
     let (g, eg, fit₃) = variables-run naming typing first (after_types k b) (section_variables vs) inner record { env = d₂; store = f.store } store fit₂ e₃ in
@@ -242,8 +242,8 @@ pub parameters-of_typed : {N : Type 0} (naming : Naming N) (env : TypeEnvironmen
 unfolding typed_parameters
 parameters-of_typed naming env k end ps e = ap (map as_parameter) (some_inverse {a = []} {b = ps} e)
 parameters-of_typed naming env k (more (then_section f) fs) ps e =
-    let (s, es, e₁) = some-gives (denoted (meanings naming env) k (section_type f)) (λ s. option_and_then (λ rest. Some (map (typed_parameter record { mode = (section_mode f); shape = s }) (section_names f) ++ rest)) (typed_parameters naming (bind_names (section_names f) (a_variable s) env) (k + constructors (section_type f)) fs)) ps e in
-    let (rest, er, e₂) = some-gives (typed_parameters naming (bind_names (section_names f) (a_variable s) env) (k + constructors (section_type f)) fs) (λ rest. Some (map (typed_parameter record { mode = (section_mode f); shape = s }) (section_names f) ++ rest)) ps e₁ in
+    let (s, es, e₁) = then_some (denoted (meanings naming env) k (section_type f)) (λ s. option_and_then (λ rest. Some (map (typed_parameter record { mode = (section_mode f); shape = s }) (section_names f) ++ rest)) (typed_parameters naming (bind_names (section_names f) (a_variable s) env) (k + constructors (section_type f)) fs)) ps e in
+    let (rest, er, e₂) = then_some (typed_parameters naming (bind_names (section_names f) (a_variable s) env) (k + constructors (section_type f)) fs) (λ rest. Some (map (typed_parameter record { mode = (section_mode f); shape = s }) (section_names f) ++ rest)) ps e₁ in
     ap (λ l. map (with_mode (section_mode f)) (section_names f) ++ l) (parameters-of_typed naming (bind_names (section_names f) (a_variable s) env) (k + constructors (section_type f)) fs rest er)
     ∙ (sym (parameters-append record { mode = (section_mode f); shape = s } (section_names f) rest) ∙ ap (map as_parameter) (some_inverse e₂))
 

@@ -8,8 +8,9 @@ use Rattle.ob0_language_types.specs.Typing.{lone_designator, shape_of_field, typ
 use Rattle.ob0_language_values.specs.Values.{FieldShapes, Members, Outcome, Place, Shape, Step, Store, TurnBound, Value, Values, array_shape, at_field, at_index, boolean_shape, count_values, elements, ends, gives, integer_shape, members, next_field_shape, next_member, next_value, no_field_shape, no_member, no_value, number, or_stuck, read_place, record_shape, truth, with_at_path, with_named_member, with_nth_value, with_part, write_place, ◌>>=◌}
 use Rattle.ob0_language_types.specs.WellTyped.{Formal, Mode, Signature, Typed, agree, argument_fits, arguments_fit, by_place, by_value, condition_fits, else_fits, elsifs_fit, sequence_fits, signature_of, statement_fits, statements_fit, variable_type}
 use Rattle.ob0_language_types.proofs.Conditions.{agree-true, both_true, call-typed, of_some, variable-typed}
+use Rattle.ob0_language_types.proofs.TypedElsewhere.{then_some}
 use Rattle.ob0_language_runs.specs.Runs.{Argument, Calls, Progress, State, choose, evaluate_argument, evaluate_arguments, execute, execute_all, execute_else, execute_elsifs, execute_further, continue_with, line_out, modes_of, number_out, perform, place_argument, append_output, read_number, running, stopped, store_at, turns, turns_until, use_in, value_argument}
-use Rattle.ob0_language_runs.proofs.Sound.{Fitting, evaluate-sound, fits-then, follow-sound, is_number, or_stuck-fits, part-fits, place-fits, some-gives, variable-fits}
+use Rattle.ob0_language_runs.proofs.Sound.{Fitting, evaluate-sound, fits-then, follow-sound, is_number, or_stuck-fits, part-fits, place-fits, variable-fits}
 use Rattle.ob0_language_runs.specs.Fitting.{ArgumentsFit, EachHasShape, HasShape, HaveShapes, MeaningsFit, ObjectFits, PlaceFits, StoreFits, StoreTyping, modes_in, part_shape, shape_at_path}
 use Rattle.ob0_language_runs.proofs.Soundness.{CallsFit, OutcomeFits, ProgressFits}
 
@@ -22,7 +23,7 @@ slice_get-grows (y ∷ xs) others (suc n) x e = slice_get-grows xs others n x e
 
 pub PlaceFits-grows : (typing others : StoreTyping) (p : Place) (s : Shape) → PlaceFits typing p s → PlaceFits (typing ++ others) p s
 PlaceFits-grows typing others p s h =
-    let (t, et, e) = some-gives (slice_get typing p.variable) (shape_at_path p.path) s h in
+    let (t, et, e) = then_some (slice_get typing p.variable) (shape_at_path p.path) s h in
     ap (option_and_then (shape_at_path p.path)) (slice_get-grows typing others p.variable t et) ∙ e
 
 pub ObjectFits-grows : (typing others : StoreTyping) (checked : Option (Object Shape Signature)) (active : Option (Object Place (List Mode))) → ObjectFits typing checked active → ObjectFits (typing ++ others) checked active
@@ -74,7 +75,7 @@ with_part-fits _ _ step t new h e hn = absurd h
 pub with_path-fits : (path : List Step) (v : Value) (s t : Shape) (new : Value) → HasShape v s → shape_at_path path s ≡ Some t → HasShape new t → (w : Value) × (with_at_path path new v ≡ Some w) × HasShape w s
 with_path-fits [] v s t new h e hn = (new, refl, of_some (λ s. HasShape new s) (sym e) hn)
 with_path-fits (step ∷ path) v s t new h e hn =
-    let (u, eu, e₁) = some-gives (part_shape s step) (shape_at_path path) t e in
+    let (u, eu, e₁) = then_some (part_shape s step) (shape_at_path path) t e in
     let (w, ew, hw) = part-fits v s step u h eu in
     let (z, ez, hz) = with_path-fits path w u t new hw e₁ hn in (
       with_part v step z,
@@ -90,7 +91,7 @@ set-fits _ _ n s new h e hn = absurd h
 
 pub store_at-fits : (typing : StoreTyping) (s : State) (p : Place) (shape : Shape) (new : Value) → StoreFits typing s.store → PlaceFits typing p shape → HasShape new shape → ProgressFits typing (store_at s p new)
 store_at-fits typing s p shape new h place hn =
-    let (t, et, e₁) = some-gives (slice_get typing p.variable) (shape_at_path p.path) shape place in
+    let (t, et, e₁) = then_some (slice_get typing p.variable) (shape_at_path p.path) shape place in
     let (v, ev, hv) = variable-fits typing s.store p.variable t h et in
     let (w, ew, hw) = with_path-fits p.path v t shape new hv e₁ hn in
     let wrote : write_place s.store p new ≡ Some (slice_set s.store p.variable w) =
@@ -126,7 +127,7 @@ designate-sound typing checked active store f x path s h =
     (λ p hp. let (v, ev, hv) = place-fits typing store p t f.store_fits hp in
     fits-then (λ v. HasShape v t) (λ p. PlaceFits typing p s) (or_stuck (read_place store p)) (λ v. follow active store v path >>= (λ steps. gives record { variable = p.variable; path = p.path ++ steps })) (or_stuck-fits (λ v. HasShape v t) (read_place store p) v ev hv)
     (λ v hv. fits-then (λ steps. shape_at_path steps t ≡ Some s) (λ p. PlaceFits typing p s) (follow active store v path) (λ steps. gives record { variable = p.variable; path = p.path ++ steps }) (follow-sound typing checked active store f v t path s hv h₁)
-    (λ steps e. let (u, eu, e₁) = some-gives (slice_get typing p.variable) (shape_at_path p.path) t hp in
+    (λ steps e. let (u, eu, e₁) = then_some (slice_get typing p.variable) (shape_at_path p.path) t hp in
     ap (option_and_then (shape_at_path (p.path ++ steps))) eu ∙ (shape_at_path-append p.path steps u ∙ (ap (option_and_then (shape_at_path steps)) e₁ ∙ e)))))
 
 -- Arguments that fit evaluate to arguments that fit.

@@ -1,5 +1,5 @@
 -- In a well-typed block, each use of a constant is a whole factor.
-use Rattle.std.proofs.Common.{Bool, List, None, Option, Some, ap, arith, eq-eqb, if◌then◌else◌, le_of_lt, le_refl, length, map, ne_eqb, option_and_then, option_map, refl, subst, suc, sym, true, true≢false, ℕ, ◌&&◌, ◌++◌, ◌+◌, ◌<◌, ◌==◌, ◌∙◌, ◌∷◌, ◌≡◌, ◌≤◌}
+use Rattle.std.proofs.Common.{Bool, List, None, Option, Some, ap, arith, eq-eqb, if◌then◌else◌, le_of_lt, le_refl, length, map, ne_eqb, option_and_then, option_map, subst, suc, sym, true, ℕ, ◌&&◌, ◌++◌, ◌+◌, ◌<◌, ◌==◌, ◌∙◌, ◌∷◌, ◌≡◌, ◌≤◌}
 use Rattle.ob0_tree.specs.Tree.{Tree, begins, block, body, constant, declares, declares_constant, declares_procedure, declares_type, declares_variable, end, further_section, has_body, item, items, maybe, more, none, occurrences, one, procedure, then_section, type_name, variable, written_type}
 use Rattle.ob0_language_names.specs.Elsewhere.{names_elsewhere}
 use Rattle.ob0_language_names.specs.Names.{Name, as_names}
@@ -15,7 +15,7 @@ use Rattle.ob0_language_types.specs.Declarations.{after_types, after_variables, 
 use Rattle.ob0_language_types.specs.Environments.{Environment, meanings}
 use Rattle.ob0_language_types.specs.Expressions.{a_constant, a_procedure, a_type, a_variable}
 use Rattle.ob0_language_types.specs.Typing.{constant_value, constructors, denoted}
-use Rattle.ob0_language_types.specs.WellTyped.{Signature, TypeEnvironment, TypedParameter, bind_names, bind_typed, block_fits, body_fits, declare_typed, heading, some_and, procedure_fits, procedures_fit, section_mode, typed_parameters}
+use Rattle.ob0_language_types.specs.WellTyped.{Signature, TypeEnvironment, TypedParameter, bind_names, bind_typed, block_fits, body_fits, declare_typed, heading, procedure_fits, procedures_fit, section_mode, typed_parameters}
 use Rattle.ob0_language_types.proofs.Agreeing.{Agree, HoldsOf}
 use Rattle.ob0_language_types.proofs.EditedDeclarations.{Outside, HasValueBetween, constants-edited, outside-right}
 use Rattle.ob0_language_types.proofs.EditedParts.{all-left, body-has_value, constants-has_value, first-edited, heading-outside, mark_all, names_of, own-has_value, procedures-has_value, read-all, rest-has_value, types-outside, with_value}
@@ -25,6 +25,7 @@ use Rattle.ob0_language_types.proofs.Literals.{some_inverse}
 use Rattle.ob0_language_types.proofs.Marks.{Marks, Sound, Sound-weaken, found, found-right, knowns, ordinal-found, read, read_edited, scope_marked, has_value-found}
 use Rattle.ob0_language_types.proofs.TypedElsewhere.{AreConstant, constant_value-elsewhere, denoted-elsewhere, sequence-elsewhere, then_some}
 use Rattle.ob0_language_types.proofs.TypesByOrdinal.{typed_names}
+use Rattle.ob0_language_types.proofs.Conditions.{hold-true}
 use Rattle.std.proofs.lemmas.Bool.{and_parts}
 
 -- holds if a name is bound to the constant with ordinal `d`
@@ -43,10 +44,6 @@ agree-some {X} {Y} p q P r s (a, e, e', holds) y h = go a holds (sym e ∙ h)
     go : (a : Option X) → HoldsOf P a → option_map p a ≡ Some y → (x : X) × P x × (p x ≡ y)
     go None holds h = absurd (cc)
     go (Some x) holds h = (x, holds, some_inverse h)
-
-held : {A : Type 0} (o : Option A) (test : A → Bool) → some_and o test ≡ true → (a : A) × (o ≡ Some a) × (test a ≡ true)
-held None test h = absurd (true≢false (sym h))
-held (Some a) test h = (a, refl, h)
 
 pub alone-constants : {V P Q : Type 0} (edit : Edit) (w : Value) (X : Marks V P → Name → ℕ → P → Type 0) (p : ℕ → P → Q) (j k : ℕ) (marks : Marks V P) → Sound edit w X k marks → 7 ≤ k → (cs : Tree Name (items constant))
     → HasValueBetween edit w k (after_names k (constant_names cs)) (value_among (knowns marks) edit.constant k cs) → (env : Environment Name V Q) → declare_constants as_names (read p marks) cs ≡ Some env
@@ -156,7 +153,7 @@ mutual
       let types : first_type k b ≤ first_variable k b = le-after_names (first_type k b) (named_types (section_types ts)) in
       let variables : first_variable k b ≤ first_procedure k b = le-after_names (first_variable k b) (variable_names (section_variables vs)) in
       let above : k ≤ first_type k b = le-after_names k (constant_names (section_constants cs)) in
-      let (env₂, e₂, fits) = held (option_and_then (declare_typed as_names (after_types i b) (section_variables vs)) (declare_first as_names (read as_signed marks) i b)) (λ inner. procedures_fit as_names inner (after_variables i b) statements ps) h in
+      let (env₂, e₂, fits) = hold-true (option_and_then (declare_typed as_names (after_types i b) (section_variables vs)) (declare_first as_names (read as_signed marks) i b)) (λ inner. procedures_fit as_names inner (after_variables i b) statements ps) h in
       let (env₁, e₁, f₁) = then_some (declare_first as_names (read as_signed marks) i b) (declare_typed as_names (after_types i b) (section_variables vs)) env₂ e₂ in
       let (env₀, e₀, f₀) = constants_first (read as_signed marks) i b env₁ e₁ in
       let (inner₀, left₀, r₀) = agree-some (read as_signed) (read_edited edit as_signed) (LeftTyped edit w (first_type k b) (types_scope k b (scope_marked marks)) (declare_constants as_names (knowns marks) (section_constants cs)))
@@ -203,7 +200,7 @@ mutual
       let own : Outside edit k (suc k) = λ l m. outside l (omega (arith, m, above)) in
       let later : Checked edit w (suc k) marks = Sound-weaken edit w anything k (suc k) marks (le_of_lt (le_refl (suc k))) s in
       let outside' : Outside edit (suc k) n = λ l m. outside (omega (arith, l)) m in
-      let (ps, e, fits) = held (typed_parameters as_names (read as_signed marks) i (formal_sections fs)) (λ ps. procedure_fits as_names (bind_typed ps (heading x ps (read as_signed marks))) i p && procedures_fit as_names (heading x ps (read as_signed marks)) (i + procedure_constructors p) statements rest) h in
+      let (ps, e, fits) = hold-true (typed_parameters as_names (read as_signed marks) i (formal_sections fs)) (λ ps. procedure_fits as_names (bind_typed ps (heading x ps (read as_signed marks))) i p && procedures_fit as_names (heading x ps (read as_signed marks)) (i + procedure_constructors p) statements rest) h in
       let both = and_parts (procedure_fits as_names (bind_typed ps (heading x ps (read as_signed marks))) i p) (procedures_fit as_names (heading x ps (read as_signed marks)) (i + procedure_constructors p) statements rest) fits in
       let (qs, spelled, r) = agree-some (λ ps. ps) (λ ps. ps) (λ ps. typed_names ps ≡ formal_names (formal_sections fs)) (typed_parameters as_names (read as_signed marks) i (formal_sections fs)) (typed_parameters as_names (read_edited edit as_signed marks) i (leaf edit j (formal_sections fs)))
       (parameters-edited edit w lit i j (suc k) marks later (omega (arith, seven)) (formal_sections fs) here.0.0 outside') ps e in

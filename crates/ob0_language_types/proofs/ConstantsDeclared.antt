@@ -18,7 +18,7 @@ use Rattle.ob0_language_types.specs.Declarations.{after_types, after_variables, 
 use Rattle.ob0_language_types.specs.Environments.{from_binding, meanings, newest, outermost}
 use Rattle.ob0_language_types.specs.Expressions.{Object, a_constant, a_procedure, a_standard, a_type, a_variable}
 use Rattle.ob0_language_types.specs.Typing.{constant_of, constant_value, constructors, denoted}
-use Rattle.ob0_language_types.specs.WellTyped.{Signature, TypeEnvironment, TypedParameter, WellTyped, bind_names, bind_typed, block_fits, declare_typed, fits_over, heading, some_and, procedure_fits, procedures_fit, typed_parameters}
+use Rattle.ob0_language_types.specs.WellTyped.{Signature, TypeEnvironment, TypedParameter, WellTyped, bind_names, bind_typed, block_fits, declare_typed, fits_over, heading, procedure_fits, procedures_fit, typed_parameters}
 use Rattle.ob0_language_values.specs.Values.{Shape, Value}
 use Rattle.ob0_language_types.proofs.Agreeing.{Agree, HoldsOf}
 use Rattle.ob0_language_types.proofs.Bound.{headed_bindings, newest-append, newest-if, or_else, since-append}
@@ -28,6 +28,7 @@ use Rattle.ob0_language_types.proofs.Proved.{fits_by_ordinal-holds}
 use Rattle.ob0_language_types.proofs.TypedElsewhere.{then_some}
 use Rattle.ob0_language_types.proofs.TypeNaturality.{constant_value-map}
 use Rattle.ob0_language_types.proofs.TypesByOrdinal.{TypeNoted, TypedBelow, TypedBelow-weaken, TypedWithin, bind_names-by_ordinal, bind_typed-by_ordinal, label_typed, label_typed-formals, noted_names, noted_parameters, parameters_typed, typed_by_name, typed_by_ordinal, typed_label, typed_meanings-agree, typed_names, typed_outermost, typed_scope}
+use Rattle.ob0_language_types.proofs.Conditions.{hold-true}
 
 abbrev pub has_value : TypeEnvironment Label → ℕ → Option Value
 has_value env d = constant_of (object_bound env d)
@@ -257,10 +258,6 @@ agree-second {X} {Y} {Z} p q P r s (a, e, e', holds) z h = go a holds (sym e' �
     go None holds h = absurd (cc)
     go (Some x) holds h = (x, holds, some_inverse h)
 
-held : {A : Type 0} (o : Option A) (test : A → Bool) → some_and o test ≡ true → (a : A) × (o ≡ Some a) × (test a ≡ true)
-held None test h = absurd (true≢false (sym h))
-held (Some a) test h = (a, refl, h)
-
 -- holds if bindings with ordinals from `k` to `n - 1` have the values of the constants
 pub record AreValuesBetween (k n : ℕ) (value : ℕ → Option Value) (bindings : TypeEnvironment Label) : Type 0 where
   pub binds : Binds k n bindings
@@ -284,7 +281,7 @@ pub block-parts : (env : TypeEnvironment Label) (j : ℕ) (b : Tree Label block)
     → (inner : TypeEnvironment Label) × (declare_block as_labels env j b ≡ Some inner) × (procedures_fit as_labels inner (after_variables j b) (block_statements b) (block_procedures b) ≡ true)
 unfolding block_fits
 block-parts env j (has_body (declares cs ts vs ps) statements) h =
-    held (declare_block as_labels env j (has_body (declares cs ts vs ps) statements)) (λ inner. procedures_fit as_labels inner (after_variables j (has_body (declares cs ts vs ps) statements)) statements ps) h
+    hold-true (declare_block as_labels env j (has_body (declares cs ts vs ps) statements)) (λ inner. procedures_fit as_labels inner (after_variables j (has_body (declares cs ts vs ps) statements)) statements ps) h
 
 pub block-listed : (env : TypeEnvironment Label) (j : ℕ) (b : Tree Label block) (inner : TypeEnvironment Label) → declare_block as_labels env j b ≡ Some inner
     → block_bindings as_labels env j b ≡ procedures_bindings as_labels inner (after_variables j b) (block_procedures b) ++ since env inner
@@ -303,7 +300,7 @@ pub procedure-parts : (env : TypeEnvironment Label) (j : ℕ) (statements : Tree
 unfolding block_fits
 procedure-parts env j statements x fs b closing rest h =
     let p : Tree Label (item procedure) = declares_procedure x fs b closing in
-    let all = held (typed_parameters as_labels env j (formal_sections fs)) (λ ps. procedure_fits as_labels (bind_typed ps (heading x ps env)) j p && procedures_fit as_labels (heading x ps env) (j + procedure_constructors p) statements rest) h in
+    let all = hold-true (typed_parameters as_labels env j (formal_sections fs)) (λ ps. procedure_fits as_labels (bind_typed ps (heading x ps env)) j p && procedures_fit as_labels (heading x ps env) (j + procedure_constructors p) statements rest) h in
     let both = and_parts (procedure_fits as_labels (bind_typed all.0 (heading x all.0 env)) j p) (procedures_fit as_labels (heading x all.0 env) (j + procedure_constructors p) statements rest) all.2 in
     record { listed = all.0; typed = all.1; block_right = both.0; rest_right = both.1 }
 

@@ -17,7 +17,7 @@ id_is_plain (Signed z) = whole_is_plain z
 id_is_plain (Unsigned n) = refl
 id_is_plain (Text t) = refl
 
-whole_is_flat : (z : ℤ) → depth (whole_number z) ≡ 0
+pub whole_is_flat : (z : ℤ) → depth (whole_number z) ≡ 0
 whole_is_flat (pos n) = refl
 whole_is_flat (negsuc n) = refl
 

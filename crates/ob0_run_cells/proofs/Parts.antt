@@ -5,7 +5,8 @@ use Rattle.ob0_language_types.specs.Typing.{shape_of_field}
 use Rattle.ob0_language_values.specs.Values.{FieldShapes, Members, Shape, Step, Value, Values, array_shape, at_field, at_index, at_path, boolean_shape, count_values, elements, integer_shape, members, named_member, next_field_shape, next_member, next_value, no_field_shape, no_member, no_value, nth_value, number, part, record_shape, truth, with_at_path, with_named_member, with_nth_value, with_part}
 use Rattle.ob0_language_runs.specs.Fitting.{EachHasShape, HasShape, HaveShapes, part_shape, shape_at_path}
 use Rattle.ob0_language_types.proofs.Conditions.{of_some}
-use Rattle.ob0_language_runs.proofs.Sound.{below_of, some-gives}
+use Rattle.ob0_language_types.proofs.TypedElsewhere.{then_some}
+use Rattle.ob0_language_runs.proofs.Sound.{below_of}
 use Rattle.ob0_run_cells.specs.Cells.{cells_of, element_cells, field_offset, field_sizes, member_cells, offset, size, step_offset}
 use Rattle.ob0_run_cells.proofs.Splits.{Lies, lies-alone, lies-following, lies-first, lies-within}
 
@@ -100,7 +101,7 @@ PathLies path v s t =
 pub path-lies : (path : List Step) (v : Value) (s t : Shape) → HasShape v s → shape_at_path path s ≡ Some t → PathLies path v s t
 path-lies [] v s t h e = (v, refl, of_some (λ t. HasShape v t) e h, (λ new. new), (λ new. refl), lies-alone v)
 path-lies (step ∷ path) v s t h e =
-    let (u, eu, e₁) = some-gives (part_shape s step) (shape_at_path path) t e in
+    let (u, eu, e₁) = then_some (part_shape s step) (shape_at_path path) t e in
     let (w, ew, hw, l) = part-lies v s step u h eu in
     let (z, ez, hz, write, made, k) = path-lies path w u t hw e₁ in (
       z,

@@ -14,9 +14,9 @@ use Rattle.ob0_language_types.proofs.Literals.{some_inverse}
 use Rattle.ob0_language_values.specs.Values.{Shape, Store, Value, initial}
 use Rattle.ob0_language_runs.specs.Fitting.{ArgumentsFit, EnvironmentsFit, HasShape, StoreFits, StoreTyping}
 use Rattle.ob0_language_runs.specs.Runs.{Activation, Argument, Frame, allocate, bind_parameter, bind_parameters, declare_block, declare_procedures, declare_variables, place_argument, value_argument, with_procedures}
-use Rattle.ob0_language_runs.proofs.Sound.{some-gives}
 use Rattle.ob0_language_runs.proofs.SoundCalls.{ArgumentsFit-grows, as_parameter, constants-run, denoted-same, environments-grow, types-run}
 use Rattle.ob0_language_types.proofs.Conditions.{both_true}
+use Rattle.ob0_language_types.proofs.TypedElsewhere.{then_some}
 use Rattle.ob0_run_machine.specs.Evaluation.{Level, Levels}
 use Rattle.ob0_run_machine.specs.Lowered as lowered
 use Rattle.ob0_run_cells.specs.Activations.{RoutineTable, BlockMeans, BodyMeans, Placed, Placing, PlacingFits, ProceduresMean, hide_names, in_slot, nowhere, own_target, place_names, place_one, place_parameters, place_variables}
@@ -71,8 +71,8 @@ module _ {N : Type 0} (table : RoutineTable N) where
   constants-placed typing ls end checked after placing active d e e' h =
       subst (λ a. PlacingFits table typing ls a placing d) (some_inverse {a = checked} {b = after} e) (subst (λ d. PlacingFits table typing ls checked placing d) (some_inverse {a = active} {b = d} e') h)
   constants-placed typing ls (more (declares_constant x c) cs) checked after placing active d e e' h =
-      let (v, ev, e₁) = some-gives (constant_value (meanings table.naming checked) c) (λ v. declare_constants table.naming ((x, a_constant v) ∷ checked) cs) after e in
-      let (w, ew, e₂) = some-gives (constant_value (meanings table.naming active) c) (λ v. declare_constants table.naming ((x, a_constant v) ∷ active) cs) d e' in
+      let (v, ev, e₁) = then_some (constant_value (meanings table.naming checked) c) (λ v. declare_constants table.naming ((x, a_constant v) ∷ checked) cs) after e in
+      let (w, ew, e₂) = then_some (constant_value (meanings table.naming active) c) (λ v. declare_constants table.naming ((x, a_constant v) ∷ active) cs) d e' in
       constants-placed typing ls cs ((x, a_constant v) ∷ checked) after ((x, nowhere) ∷ placing) ((x, a_constant w) ∷ active) d e₁ e₂ record { same_active = refl; same_placed = refl; here = tt; further = h }
 
   pub types-placed : (typing : StoreTyping) (ls : Levels) (k : ℕ) (ds : Tree N (items type_name)) (checked after : TypeEnvironment N) (placing : Placing N) (active d : Activation N) → declare_types table.naming checked k ds ≡ Some after → declare_types table.naming active k ds ≡ Some d
@@ -81,8 +81,8 @@ module _ {N : Type 0} (table : RoutineTable N) where
   types-placed typing ls k end checked after placing active d e e' h =
       subst (λ a. PlacingFits table typing ls a placing d) (some_inverse {a = checked} {b = after} e) (subst (λ d. PlacingFits table typing ls checked placing d) (some_inverse {a = active} {b = d} e') h)
   types-placed typing ls k (more (declares_type x u) ds) checked after placing active d e e' h =
-      let (v, ev, e₁) = some-gives (denoted (meanings table.naming checked) k u) (λ s. declare_types table.naming ((x, a_type s) ∷ checked) (k + constructors u) ds) after e in
-      let (w, ew, e₂) = some-gives (denoted (meanings table.naming active) k u) (λ s. declare_types table.naming ((x, a_type s) ∷ active) (k + constructors u) ds) d e' in
+      let (v, ev, e₁) = then_some (denoted (meanings table.naming checked) k u) (λ s. declare_types table.naming ((x, a_type s) ∷ checked) (k + constructors u) ds) after e in
+      let (w, ew, e₂) = then_some (denoted (meanings table.naming active) k u) (λ s. declare_types table.naming ((x, a_type s) ∷ active) (k + constructors u) ds) d e' in
       types-placed typing ls (k + constructors u) ds ((x, a_type v) ∷ checked) after ((x, nowhere) ∷ placing) ((x, a_type w) ∷ active) d e₁ e₂ record { same_active = refl; same_placed = refl; here = tt; further = h }
 
   -- one variable more, at the end of the store
@@ -123,7 +123,7 @@ module _ {N : Type 0} (table : RoutineTable N) where
       let same : p ≡ q = some_inverse e' in
       (f, 0, refl, ap (λ q. q.cells) (sym same) ∙ omega arith, subst (λ q. Extends table typing ls base inner q f.store [] f) same (subst (λ c. Extends table typing ls base c p f.store [] f) (some_inverse {a = checked} {b = inner} e) (extends-here typing ls base checked p f h)))
   variables-placed typing ls base at is k (more (declares_variable ns u) gs) checked inner p q f h e e' =
-      let (s, es, e₁) = some-gives (denoted (meanings table.naming checked) k u) (λ s. declare_typed table.naming (k + constructors u) gs (bind_names (names_listed ns) (a_variable s) checked)) inner e in
+      let (s, es, e₁) = then_some (denoted (meanings table.naming checked) k u) (λ s. declare_typed table.naming (k + constructors u) gs (bind_names (names_listed ns) (a_variable s) checked)) inner e in
       let e₂ : place_variables table.naming at (bind_names (names_listed ns) (a_variable s) checked) (k + constructors u) gs (place_names at (names_listed ns) (size s) p) ≡ Some q =
       sym (ap (option_and_then (λ s. place_variables table.naming at (bind_names (names_listed ns) (a_variable s) checked) (k + constructors u) gs (place_names at (names_listed ns) (size s) p))) es) ∙ e' in
       let (m, count, part) = names-placed typing ls base at is (names_listed ns) s checked p f h in
@@ -166,7 +166,7 @@ module _ {N : Type 0} (table : RoutineTable N) where
       let total : p.cells + cells ≡ q.cells = means.cells_counted in
       let fits : procedures_fit table.naming inner (after_variables k b) statements ps ≡ true =
       subst (λ o. some_and o (λ inner. procedures_fit table.naming inner (after_variables k b) statements ps) ≡ true) (ap (option_and_then (declare_typed table.naming (after_types k b) (section_variables vs))) means.first_declared ∙ means.variables_declared) e in
-      let (consts, ec, e₄) = some-gives (declare_constants table.naming checked (section_constants cs)) (λ env. declare_types table.naming env k (section_types ts)) first means.first_declared in
+      let (consts, ec, e₄) = then_some (declare_constants table.naming checked (section_constants cs)) (λ env. declare_types table.naming env k (section_types ts)) first means.first_declared in
       let (d₁, ed₁, fit₁) = constants-run table.naming typing checked f.env (section_constants cs) consts h.environment_fits ec in
       let placed₁ = constants-placed typing ls (section_constants cs) checked consts p.placing f.env d₁ ec ed₁ h.placing_fits in
       let (d₂, ed₂, fit₂) = types-run table.naming typing consts d₁ k (section_types ts) first fit₁ e₄ in

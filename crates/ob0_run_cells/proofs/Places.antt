@@ -3,7 +3,8 @@ use Rattle.std.proofs.Common.{◌≡◌, ℕ, zero, suc, ◌+◌, ◌≤◌, Boo
 use Rattle.ob0_language_values.specs.Values.{Place, Shape, Step, Store, Value, at_path, boolean_shape, integer_shape, number, read_place, truth, with_at_path, write_place}
 use Rattle.ob0_language_runs.specs.Fitting.{HasShape, PlaceFits, StoreFits, StoreTyping, part_shape, shape_at_path}
 use Rattle.ob0_language_types.proofs.Conditions.{of_some}
-use Rattle.ob0_language_runs.proofs.Sound.{is_number, is_truth, some-gives}
+use Rattle.ob0_language_types.proofs.TypedElsewhere.{then_some}
+use Rattle.ob0_language_runs.proofs.Sound.{is_number, is_truth}
 use Rattle.ob0_language_runs.proofs.SoundStatements.{PlaceFits-grows, set-fits, slice_get-grows, with_path-fits}
 use Rattle.ob0_run_cells.specs.Cells.{address, all_cells, cells_at, cells_of, cells_with, offset, size, sizes, truth_cell}
 use Rattle.ob0_run_cells.proofs.Parts.{cells-size, lies-inside, path-lies}
@@ -34,7 +35,7 @@ PlaceLies typing store p s =
 
 pub place-lies : (typing : StoreTyping) (store : Store) (p : Place) (s : Shape) → StoreFits typing store → PlaceFits typing p s → PlaceLies typing store p s
 place-lies typing store p s h e =
-    let (t, et, e₁) = some-gives (slice_get typing p.variable) (shape_at_path p.path) s e in
+    let (t, et, e₁) = then_some (slice_get typing p.variable) (shape_at_path p.path) s e in
     let (v, ev, hv, l) = variable-lies typing store p.variable t h et in
     let (w, ew, hw, write, made, k) = path-lies p.path v t s hv e₁ in (
       w,
@@ -118,7 +119,7 @@ shape-append [] more s t u e e' =
     let same : s ≡ t = ap (λ o. unwrap_or o s) e in
     (subst (λ t. shape_at_path more t ≡ Some u) (sym same) e', ap (offset more) same ∙ omega arith)
 shape-append (step ∷ path) more s t u e e' =
-    let (r, er, e₁) = some-gives (part_shape s step) (shape_at_path path) t e in
+    let (r, er, e₁) = then_some (part_shape s step) (shape_at_path path) t e in
     let (is, adds) = shape-append path more r t u e₁ e' in
     let here : unwrap_or (option_map (offset path) (part_shape s step)) 0 ≡ offset path r = ap (λ o. unwrap_or (option_map (offset path) o) 0) er in
     let there : unwrap_or (option_map (offset (path ++ more)) (part_shape s step)) 0 ≡ offset (path ++ more) r = ap (λ o. unwrap_or (option_map (offset (path ++ more)) o) 0) er in
@@ -128,7 +129,7 @@ shape-append (step ∷ path) more s t u e e' =
 pub parts_have_addresses : (typing : StoreTyping) (p : Place) (path : List Step) (s t : Shape) → PlaceFits typing p s → shape_at_path path s ≡ Some t
     → PlaceFits typing record { variable = p.variable; path = p.path ++ path } t × (address typing record { variable = p.variable; path = p.path ++ path } ≡ address typing p + offset path s)
 parts_have_addresses typing p path s t fit e =
-    let (v, ev, e₁) = some-gives (slice_get typing p.variable) (shape_at_path p.path) s fit in
+    let (v, ev, e₁) = then_some (slice_get typing p.variable) (shape_at_path p.path) s fit in
     let (is, adds) = shape-append p.path path v s t e₁ e in
     let here : unwrap_or (option_map (offset p.path) (slice_get typing p.variable)) 0 ≡ offset p.path v = ap (λ o. unwrap_or (option_map (offset p.path) o) 0) ev in
     let there : unwrap_or (option_map (offset (p.path ++ path)) (slice_get typing p.variable)) 0 ≡ offset (p.path ++ path) v = ap (λ o. unwrap_or (option_map (offset (p.path ++ path)) o) 0) ev in
@@ -142,7 +143,7 @@ taken-stays (t ∷ typing) others (suc n) s e = ap (λ l. t ∷ l) (taken-stays 
 -- an address stays where later variables are added
 pub addresses_stay : (typing others : StoreTyping) (p : Place) (s : Shape) → PlaceFits typing p s → PlaceFits (typing ++ others) p s × (address (typing ++ others) p ≡ address typing p)
 addresses_stay typing others p s fit =
-    let (t, et, e₁) = some-gives (slice_get typing p.variable) (shape_at_path p.path) s fit in (
+    let (t, et, e₁) = then_some (slice_get typing p.variable) (shape_at_path p.path) s fit in (
       PlaceFits-grows typing others p s fit,
       ap (λ l. sizes l + unwrap_or (option_map (offset p.path) (slice_get (typing ++ others) p.variable)) 0) (taken-stays typing others p.variable t et)
           ∙ ap (λ o. sizes (take p.variable typing) + unwrap_or (option_map (offset p.path) o) 0) (slice_get-grows typing others p.variable t et ∙ sym et),

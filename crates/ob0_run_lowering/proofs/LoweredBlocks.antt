@@ -9,9 +9,9 @@ use Rattle.ob0_tree.specs.View.{block_of, body_of, constants_of, formals_of, ite
 use Rattle.ob0_tree.specs.View.{procedure_of as tree_procedure_of}
 use Rattle.ob0_tree.specs.declared.tree.Block as tree_block
 use Rattle.ob0_tree.specs.declared.tree.Procedure as tree
-use Rattle.ob0_tree.proofs.Viewed.{block_parts}
+use Rattle.ob0_tree.proofs.Viewed.{block_parts, procedure_parts}
 use Rattle.ob0_scope_table.specs.InLabels.{in_labels, label_in}
-use Rattle.ob0_types_table.proofs.LabelledParts.{procedure_parts, split}
+use Rattle.ob0_types_table.proofs.LabelledParts.{split}
 use Rattle.ob0_scope_table.specs.Resolution.{Resolution, ordinal_in}
 use Rattle.ob0_language_names.specs.Names.{Label, Name, as_labels, as_names}
 use Rattle.ob0_language_names.specs.Parts.{constant_names, formal_sections, module_block, named_types, section_constants, section_types, section_variables}

@@ -2,7 +2,7 @@
 -- identifier up to the closing name of its block.
 use Rattle.std.proofs.Common.{◌≡◌, ◌<◌, ◌≤◌, ℕ, zero, ◌+◌, Bool, true, false, ◌&&◌, nat_le, nat_lt, if◌then◌else◌, Some, List, [], ◌∷◌, ◌++◌, refl, sym, ap, ◌∙◌, subst, arith, append_assoc, append-nil, lt-ltb, le-ltb}
 use Rattle.std.proofs.lemmas.Bool.Decides.{nat_tests}
-use Rattle.std.proofs.lemmas.Bool.{and_parts}
+use Rattle.std.proofs.lemmas.Bool.{and_parts, le-leb}
 use Rattle.ob0_tree.specs.declared.tree.Role.{Role}
 use Rattle.ob0_tree.specs.declared.tree.Role.TheVariants as role
 use Rattle.ob0_tree.specs.Order.{Ascending, leaves, names_only}
@@ -11,7 +11,6 @@ use Rattle.ob0_tree.specs.FirstIdentifier.{first_of}
 use Rattle.ob0_tree.proofs.AscendingNumbers.{AllBelow, AllFrom, ascend_first, ascend_second, ascending_from, below_second, from_second, leaves_append}
 use Rattle.ob0_scope_table.specs.BodyReplaced.{Way, body_among, body_at, body_in, body_inside, closing_among, closing_at, closing_in, closing_inside, later, way_among, way_in_block, way_in_procedure, way_to}
 use Rattle.ob0_scope_table.specs.OneBody.{begins_by, closing_name, is_in_block, is_in_body, is_in_procedure, is_in_procedures}
-use Rattle.ob0_scope_table.proofs.OneBody.{le_true}
 use Rattle.ob0_scope.proofs.Bodies.{Place, among, one_later}
 use Rattle.ob0_scope.proofs.BodySplit.{split_among, split_inside}
 use Rattle.ob0_scope.proofs.CarriedLists.{some_first}
@@ -23,7 +22,7 @@ first_from n first (x ∷ ids) others e h = subst (λ m. n ≤ m) (some_first e)
 
 begins_so : (first : ℕ) (ids : List (Role × ℕ)) → first_of ids ≡ Some first → begins_by first ids ≡ true
 begins_so first [] e = absurd (cc)
-begins_so first (x ∷ ids) e = let same = some_first e in le_true x.1 first (omega (arith, same))
+begins_so first (x ∷ ids) e = let same = some_first e in le-leb x.1 first (omega (arith, same))
 
 -- ---- a body's first identifier, and the closing name of its block
 
@@ -132,7 +131,7 @@ module _ (low high first closing : ℕ) (less : first < low) where
             let rising_p = ascend_first from (leaves p) (leaves ps ++ leaves statements) to rise in
             let last = closing_last (way_in_procedure low p) p from to rising_p in
             ap (λ b. if b then is_in_procedures first closing ps statements else nat_le closing (closing_name p) && is_in_procedure first closing p) (le-ltb (closing_name p) first (omega (arith, less, le)))
-            ∙ (λ i. le_true closing (closing_name p) (omega (arith, f, last)) i && inside from to both.1 rising_p e f i)
+            ∙ (λ i. le-leb closing (closing_name p) (omega (arith, f, last)) i && inside from to both.1 rising_p e f i)
 
     procedure_exact : (p : Tree ℕ (item procedure)) (from to : ℕ) → is_in_procedure low high p ≡ true → Ascending from (leaves p) to → first_of (identifiers role.Declaring (body_inside (way_in_procedure low p) p)) ≡ Some first → closing ≡ closing_inside (way_in_procedure low p) p
         → is_in_procedure first closing p ≡ true
@@ -149,4 +148,4 @@ module _ (low high first closing : ℕ) (less : first < low) where
       let last = closing_last (way_in_block low b) (declares_procedure x none b closing') 0 to (subst (λ l. Ascending 0 l to) as_procedure rising) in
       let split : leaves (is_module x b closing') ≡ (x ∷ []) ++ (leaves b ++ (closing' ∷ [])) = simp (leaves_append, append_assoc) in
       let parts = ascend_second 0 (x ∷ []) (leaves b ++ (closing' ∷ [])) to (subst (λ l. Ascending 0 l to) split rising) in
-      λ i. le_true closing closing' (omega (arith, f, last)) i && block_exact b closing' 0 to both.1 (ascend_first 0 (leaves b) (closing' ∷ []) to parts) e f i
+      λ i. le-leb closing closing' (omega (arith, f, last)) i && block_exact b closing' 0 to both.1 (ascend_first 0 (leaves b) (closing' ∷ []) to parts) e f i

@@ -8,7 +8,7 @@ use Rattle.std.proofs.lemmas.Bool.{ltb-true, ltb-false}
 use Rattle.std.proofs.lemmas.Option.{slice_get-map}
 use Rattle.std.proofs.lemmas.List.{get_or_past, get_or-replicate, length-replicate}
 use Rattle.ob0_scan.specs.Scanned.{Scanned}
-use Rattle.ob0_tree.proofs.Leaves.{leaves_ascend}
+use Rattle.ob0_tree.proofs.Leaves.{leaves_ascend, ascending_lower}
 use Rattle.ob0_tree.proofs.Occurring.{looked_up_only, looked_up-occurrences}
 use Rattle.ob0_tree.specs.declared.tree.Role.{Role}
 use Rattle.ob0_tree.specs.declared.tree.Role.TheVariants as role
@@ -317,12 +317,8 @@ abbrev pub AllMarked : List (Option ℕ) → List (Role × ℕ) → Type 0
 AllMarked table [] = Unit {0}
 AllMarked table (x ∷ xs) = IsMarked table x.0 x.1 × AllMarked table xs
 
-lower : (low higher high : ℕ) (xs : List ℕ) → low ≤ higher → Ascending higher xs high → Ascending low xs high
-lower low higher high [] le a = omega (arith, le, a)
-lower low higher high (x ∷ xs) le a = (omega (arith, le, a.0), a.1)
-
 skipped : (low i high : ℕ) (xs : List ℕ) → low ≤ i → Ascending (i + 1) xs high → Ascending low xs high
-skipped low i high xs le a = lower low (i + 1) high xs (omega (arith, le)) a
+skipped low i high xs le a = ascending_lower low (i + 1) xs high (omega (arith, le)) a
 
 fewer : (low high : ℕ) (xs : List (Role × ℕ)) → Ascending low (names_only xs) high → Ascending low (tokens_of (map first_at (looked_up_only xs))) high
 fewer low high [] a = a

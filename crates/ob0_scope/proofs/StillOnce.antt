@@ -20,11 +20,9 @@ use Rattle.ob0_scope_table.proofs.BodyReplaced.{names_outside, text_by_word, val
 use Rattle.ob0_scope_table.proofs.MappedAlike.{mapped_alike}
 use Rattle.ob0_scope_table.proofs.Placed.{places_ascend}
 use Rattle.ob0_scope.proofs.TwiceOnce.{twice_alone, twice_where}
+use Rattle.ob0_scope.proofs.WithoutRelabelled.{name_without}
 
 -- ---- a module without a body
-
-name_without : (way : Way) (p : Tree Name (item procedure)) → procedure_name (procedure_without way p) ≡ procedure_name p
-name_without way (declares_procedure x fs b closing) = refl
 
 names_without : (k : ℕ) (way : Way) (ps : Tree Name (items procedure)) → procedure_names (procedures_without k way ps) ≡ procedure_names ps
 names_without zero way end = refl

@@ -15,6 +15,7 @@ use Rattle.ob0_language_names.specs.Names.{Name, same_name}
 use Rattle.ob0_language_names.specs.Parts.{constant_names, formal_names, formal_sections, further_names, named_types, names_listed, section_constants, section_names, section_type, section_types, section_variables, variable_names}
 use Rattle.ob0_scope_table.specs.Resolution.{is_of_declarations}
 use Rattle.ob0_language_names.proofs.NameEquality.{same_name-comm}
+use Rattle.ob0_language_names.proofs.DistinctNames.{and-swap}
 
 and_true : (b : Bool) → (b && true) ≡ b
 and_true true = refl
@@ -33,20 +34,13 @@ none_before : (xs : List Name) → none_among xs [] ≡ true
 none_before [] = refl
 none_before (x ∷ xs) = none_before xs
 
-among_more : (a b c d : Bool) → (not (a || b) && (not c && d)) ≡ (not (a || c) && (not b && d))
-among_more true b c d = refl
-among_more false true true d = refl
-among_more false true false d = refl
-among_more false false true d = refl
-among_more false false false d = refl
-
 -- Adding one earlier name excludes that name from the others.
 more_before : (x : Name) (xs before : List Name) → none_among xs (x ∷ before) ≡ (not (is_among x xs) && none_among xs before)
 more_before x [] before = refl
 more_before x (y ∷ ys) before =
     ap (λ b. not (same_name y x || is_among y before) && b) (more_before x ys before)
     ∙ (ap (λ s. not (s || is_among y before) && (not (is_among x ys) && none_among ys before)) (same_name-comm y x)
-    ∙ among_more (same_name x y) (is_among y before) (is_among x ys) (none_among ys before))
+    ∙ and-swap (same_name x y) (is_among y before) (is_among x ys) (none_among ys before))
 
 regroup : (a d n p : Bool) → (a && (d && (n && p))) ≡ ((n && d) && (a && p))
 regroup true true true p = refl

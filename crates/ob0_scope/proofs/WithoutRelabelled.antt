@@ -24,7 +24,7 @@ mutual
   after_procedure_without : {N : Type 0} (way : Way) (n : ℕ) (p : Tree N (item procedure)) → after_procedure n (procedure_without way p) ≡ after_procedure n p
   after_procedure_without way n (declares_procedure x fs b closing) = after_block_without way (after_names n (formal_names (formal_sections fs))) b
 
-name_without : {N : Type 0} (way : Way) (p : Tree N (item procedure)) → procedure_name (procedure_without way p) ≡ procedure_name p
+pub name_without : {N : Type 0} (way : Way) (p : Tree N (item procedure)) → procedure_name (procedure_without way p) ≡ procedure_name p
 name_without way (declares_procedure x fs b closing) = refl
 
 -- The procedures of a block add the same names to a scope without the body.

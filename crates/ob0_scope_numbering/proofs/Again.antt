@@ -1,11 +1,11 @@
 -- Proves the loops of the walk to one body: counting declarations, and skipping procedures.
 use Rattle.std.proofs.Common.{◌≡◌, ◌<◌, ◌≤◌, ℕ, ◌+◌, if◌then◌else◌, List, [], ◌∷◌, ◌++◌, length, drop, get_or, sym, ap, ◌∙◌, append_assoc, append-nil}
 use Rattle.std.proofs.lemmas.List.{drop_all, drop_more}
+use Rattle.std.proofs.lemmas.Bool.{le-ltb, lt-ltb}
 use Rattle.ob0_tree.specs.Tree.{Tree, body, declares_procedure, item, maybe, more, procedure}
 use Rattle.ob0_tree.specs.View.{block_of, formals_of, items_of, procedure_of}
 use Rattle.ob0_tree.specs.declared.tree.Procedure.{Procedure, out-Procedure}
 use Rattle.ob0_tree.proofs.Viewed.{procedure_parts}
-use Rattle.ob0_scope_table.proofs.OneBody.{less_false, less_true}
 use Rattle.ob0_scope_numbering.specs.Renumbering.{caught_up, counted, first_before, passed_over, renumber_procedure, renumber_procedures}
 use Rattle.ob0_scope_numbering.specs.Tabling.{Visit, put}
 
@@ -21,13 +21,13 @@ pub catches_on : (all : List ℕ) (token : ℕ) (start : Visit) (k : ℕ) (now :
 catches_on all token start k now x w inside here less =
     let split : drop k all ≡ x ∷ drop (k + 1) all = drop_more all k x inside ∙ ap (λ y. y ∷ drop (k + 1) all) (sym (here x)) in
     let first : first_before token (drop k all) ≡ x ∷ first_before token (drop (k + 1) all) =
-    ap (first_before token) split ∙ ap (λ b. if b then x ∷ first_before token (drop (k + 1) all) else []) (less_true x token less) in
+    ap (first_before token) split ∙ ap (λ b. if b then x ∷ first_before token (drop (k + 1) all) else []) (lt-ltb x token less) in
     record { so_far = ap (with_declarations now) (append_assoc now.declarations (x ∷ []) (first_before token (drop (k + 1) all)) ∙ ap (λ l. now.declarations ++ l) (sym first)) ∙ w.so_far }
 
 pub caught_at : (all : List ℕ) (token : ℕ) (start : Visit) (k : ℕ) (now : Visit) (x : ℕ) → Catching all token start k now → k < length all → ((d : ℕ) → x ≡ get_or all k d) → token ≤ x → now ≡ caught_up all token start
 caught_at all token start k now x w inside here le =
     let split : drop k all ≡ x ∷ drop (k + 1) all = drop_more all k x inside ∙ ap (λ y. y ∷ drop (k + 1) all) (sym (here x)) in
-    let none : first_before token (drop k all) ≡ [] = ap (first_before token) split ∙ ap (λ b. if b then x ∷ first_before token (drop (k + 1) all) else []) (less_false x token le) in
+    let none : first_before token (drop k all) ≡ [] = ap (first_before token) split ∙ ap (λ b. if b then x ∷ first_before token (drop (k + 1) all) else []) (le-ltb x token le) in
     ap (with_declarations now) (sym (append-nil now.declarations) ∙ ap (λ l. now.declarations ++ l) (sym none)) ∙ w.so_far
 
 pub caught_all : (all : List ℕ) (token : ℕ) (start : Visit) (k : ℕ) (now : Visit) → Catching all token start k now → length all ≤ k → now ≡ caught_up all token start
@@ -45,10 +45,10 @@ module _ (all : List ℕ) (low : ℕ) (statements : Tree ℕ (maybe body)) where
   pub passes_one : (q : Procedure) (rest : List Procedure) (v : Visit) → (out-Procedure q).closing < low → going (q ∷ rest) v ≡ going rest (passed_over (out-Procedure q).name (caught_up all (out-Procedure q).name v))
   passes_one q rest v past =
       ap (λ p. renumber_procedures put all low (more p (items_of procedure_of rest)) statements v) (procedure_parts q)
-      ∙ ap (λ b. if b then going rest (passed_over (out-Procedure q).name (caught_up all (out-Procedure q).name v)) else renumber_procedure put all low (parts_of q) (caught_up all (out-Procedure q).name v)) (less_true (out-Procedure q).closing low past)
+      ∙ ap (λ b. if b then going rest (passed_over (out-Procedure q).name (caught_up all (out-Procedure q).name v)) else renumber_procedure put all low (parts_of q) (caught_up all (out-Procedure q).name v)) (lt-ltb (out-Procedure q).closing low past)
 
   pub enters_one : (q : Procedure) (rest : List Procedure) (v : Visit) → low ≤ (out-Procedure q).closing → going (q ∷ rest) v ≡ renumber_procedure put all low (procedure_of q) (caught_up all (out-Procedure q).name v)
   enters_one q rest v le =
       ap (λ p. renumber_procedures put all low (more p (items_of procedure_of rest)) statements v) (procedure_parts q)
-      ∙ (ap (λ b. if b then going rest (passed_over (out-Procedure q).name (caught_up all (out-Procedure q).name v)) else renumber_procedure put all low (parts_of q) (caught_up all (out-Procedure q).name v)) (less_false (out-Procedure q).closing low le)
+      ∙ (ap (λ b. if b then going rest (passed_over (out-Procedure q).name (caught_up all (out-Procedure q).name v)) else renumber_procedure put all low (parts_of q) (caught_up all (out-Procedure q).name v)) (le-ltb (out-Procedure q).closing low le)
       ∙ ap (λ p. renumber_procedure put all low p (caught_up all (out-Procedure q).name v)) (sym (procedure_parts q)))

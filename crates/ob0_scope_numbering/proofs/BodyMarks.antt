@@ -4,7 +4,7 @@ use Rattle.std.proofs.Common.{◌≡◌, ◌<◌, ◌≤◌, ℕ, ◌+◌, Bool,
 use Rattle.std.proofs.lemmas.Bool.Decides.{nat_tests}
 use Rattle.std.proofs.lemmas.List.{append_cancel_left, map-append}
 use Rattle.std.proofs.Math.Seq.{drop-append_seam}
-use Rattle.std.proofs.lemmas.Bool.{and_parts}
+use Rattle.std.proofs.lemmas.Bool.{and_parts, lt-ltb}
 use Rattle.ob0_tree.specs.declared.tree.Role.{Role}
 use Rattle.ob0_tree.specs.declared.tree.Role.TheVariants as role
 use Rattle.ob0_tree.specs.Order.{Ascending, leaves, names_only}
@@ -50,18 +50,11 @@ not_itself x = one (nat_lt x x) refl
     one false e = refl
     one true e = absurd (grind (arith, nat_tests))
 
-is_less : (x y : ℕ) → x < y → nat_lt x y ≡ true
-is_less x y less = one (nat_lt x y) refl
-  where
-    one : (b : Bool) → nat_lt x y ≡ b → b ≡ true
-    one true e = refl
-    one false e = absurd (grind (arith, nat_tests))
-
 -- The tokens listed before x are the tokens before x, if all of them are below x.
 stops_at : (x : ℕ) (xs extra : List ℕ) → AllBelow x xs → first_before x (xs ++ (x ∷ extra)) ≡ xs
 stops_at x [] extra h = ap (λ b. if b then x ∷ first_before x extra else []) (not_itself x)
 stops_at x (y ∷ ys) extra h =
-    ap (λ b. if b then y ∷ first_before x (ys ++ (x ∷ extra)) else []) (is_less y x h.0) ∙ ap (λ l. y ∷ l) (stops_at x ys extra h.1)
+    ap (λ b. if b then y ∷ first_before x (ys ++ (x ∷ extra)) else []) (lt-ltb y x h.0) ∙ ap (λ l. y ∷ l) (stops_at x ys extra h.1)
 
 -- ---- a procedure's tokens end with its closing name
 

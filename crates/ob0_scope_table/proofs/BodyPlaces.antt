@@ -3,6 +3,7 @@
 use Rattle.std.proofs.Common.{◌≡◌, ◌<◌, ◌≤◌, ℕ, zero, ◌+◌, Bool, true, false, ◌&&◌, if◌then◌else◌, nat_le, nat_lt, Option, Some, None, is_some, option_map, List, [], ◌∷◌, length, drop, get_or, refl, sym, ap, ◌∙◌, arith}
 use Rattle.std.proofs.lemmas.List.{drop_all, drop_more}
 use Rattle.std.proofs.lemmas.Option.{same_Some}
+use Rattle.std.proofs.lemmas.Bool.{lt-leb, le-leb, le-ltb, lt-ltb}
 use Rattle.ob0_tree.specs.declared.tree.Role.{Role}
 use Rattle.ob0_tree.specs.declared.tree.Role.TheVariants as role
 use Rattle.ob0_tree.specs.Tree.{Tree, block, body, constants, declares, declares_procedure, end, has_body, identifiers, is_module, item, items, maybe, module_text, more, procedure, type_names, variables}
@@ -15,7 +16,6 @@ use Rattle.ob0_tree.specs.FirstIdentifier.{first_of}
 use Rattle.ob0_scope_table.specs.BodyReplaced.{Way, body_at, body_in, body_inside, closing_at, closing_in, closing_inside, later, way_among, way_in_block, way_in_procedure, way_to}
 use Rattle.ob0_scope_table.specs.OneBody.{begins_by, closing_name, is_in_block, is_in_body, is_in_procedure, is_in_procedures}
 use Rattle.ob0_scope_table.specs.declared.one_body.BodyPlace.{BodyPlace}
-use Rattle.ob0_scope_table.proofs.OneBody.{le_false, le_true, less_false, less_true}
 
 abbrev pub a_place : ℕ → ℕ → Option BodyPlace
 a_place first closing = Some (record { first = first; closing = closing })
@@ -58,13 +58,13 @@ module _ (low closing : ℕ) where
   by_after [] first e less = refl
   by_after (x ∷ xs) first e less =
       let same = same_Some x.1 first e in
-      ap (λ b. if b then a_place x.1 closing else None) (sym (le_false x.1 low (omega (arith, same, less))))
+      ap (λ b. if b then a_place x.1 closing else None) (sym (lt-leb x.1 low (omega (arith, same, less))))
 
   by_from : (xs : List (Role × ℕ)) (first : ℕ) → first_of xs ≡ Some first → first ≤ low → a_place first closing ≡ place_by low closing xs
   by_from [] first e le = absurd (cc)
   by_from (x ∷ xs) first e le =
       let same = same_Some x.1 first e in
-      ap (λ n. a_place n closing) (sym same) ∙ ap (λ b. if b then a_place x.1 closing else None) (sym (le_true x.1 low (omega (arith, same, le))))
+      ap (λ n. a_place n closing) (sym same) ∙ ap (λ b. if b then a_place x.1 closing else None) (sym (le-leb x.1 low (omega (arith, same, le))))
 
   module _ (statements : Tree ℕ (maybe body)) where
     abbrev own_place : Option BodyPlace
@@ -137,11 +137,11 @@ module _ (low high own : ℕ) where
 
     pub past_one : (xs : List Procedure) (k : ℕ) (q : Procedure) → k < length xs → q ≡ get_or xs k q → (out-Procedure q).closing < low → place_from (k + 1) xs ≡ place_from k xs
     past_one xs k q less here past =
-        sym (one_more xs k q less here ∙ ap (λ b. if b then place_from (k + 1) xs else place_reached (out-Procedure q).closing (procedure_of q)) (less_true (out-Procedure q).closing low past))
+        sym (one_more xs k q less here ∙ ap (λ b. if b then place_from (k + 1) xs else place_reached (out-Procedure q).closing (procedure_of q)) (lt-ltb (out-Procedure q).closing low past))
 
     in_one : (xs : List Procedure) (k : ℕ) (q : Procedure) → k < length xs → q ≡ get_or xs k q → low ≤ (out-Procedure q).closing → place_from k xs ≡ place_reached (out-Procedure q).closing (procedure_of q)
     in_one xs k q less here le =
-        one_more xs k q less here ∙ ap (λ b. if b then place_from (k + 1) xs else place_reached (out-Procedure q).closing (procedure_of q)) (less_false (out-Procedure q).closing low le)
+        one_more xs k q less here ∙ ap (λ b. if b then place_from (k + 1) xs else place_reached (out-Procedure q).closing (procedure_of q)) (le-ltb (out-Procedure q).closing low le)
 
     -- The place is in this procedure if the range doesn't extend beyond its end (`b`).
     at_end : (q : Procedure) (b : Bool) → nat_le high (out-Procedure q).closing ≡ b
@@ -149,10 +149,10 @@ module _ (low high own : ℕ) where
     at_end q b e = ap (λ b. place_if (b && is_in_procedure low high (procedure_of q)) (body_inside (way_in_procedure low (procedure_of q)) (procedure_of q)) (closing_inside (way_in_procedure low (procedure_of q)) (procedure_of q))) e
 
     pub past_end : (xs : List Procedure) (k : ℕ) (q : Procedure) → k < length xs → q ≡ get_or xs k q → low ≤ (out-Procedure q).closing → (out-Procedure q).closing < high → place_from k xs ≡ None
-    past_end xs k q less here le far = in_one xs k q less here le ∙ at_end q false (le_false high (out-Procedure q).closing far)
+    past_end xs k q less here le far = in_one xs k q less here le ∙ at_end q false (lt-leb high (out-Procedure q).closing far)
 
     pub in_procedure : (xs : List Procedure) (k : ℕ) (q : Procedure) → k < length xs → q ≡ get_or xs k q → low ≤ (out-Procedure q).closing → high ≤ (out-Procedure q).closing → place_from k xs ≡ place_in_procedure low high (procedure_of q)
-    in_procedure xs k q less here le near = in_one xs k q less here le ∙ at_end q true (le_true high (out-Procedure q).closing near)
+    in_procedure xs k q less here le near = in_one xs k q less here le ∙ at_end q true (le-leb high (out-Procedure q).closing near)
 
     pub in_statements : (xs : List Procedure) (k : ℕ) → length xs ≤ k → place_from k xs ≡ place_if (begins_by low (identifiers role.Declaring statements)) statements own
     in_statements xs k all = ap (λ ys. place_among (items_of procedure_of ys) statements) (drop_all k xs all)

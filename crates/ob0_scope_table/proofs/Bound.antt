@@ -14,7 +14,7 @@ use Rattle.ob0_language_names.proofs.OccurrencesMapped.{occurrences-mapped}
 pub bindings_by_table : (m : Parsed) (ordinals : List (Option ℕ)) → IsNumbering m ordinals → bindings (named_tree_of m) ≡ map (label_at m.source ordinals) (occurrences (tree_of m))
 bindings_by_table m ordinals numbering = ap occurrences numbering ∙ occurrences-mapped (label_at m.source ordinals) (value_at m.source) (tree_of m)
 
-label_back : (ordinal : Option ℕ) (x : Name) → label_ordinal (as_label as_names ordinal x) ≡ ordinal
+pub label_back : (ordinal : Option ℕ) (x : Name) → label_ordinal (as_label as_names ordinal x) ≡ ordinal
 label_back None x = refl
 label_back (Some k) x = refl
 

@@ -1,43 +1,12 @@
 -- Proves facts about tests of numbers, and that the tokens outside a range have the same spellings
 -- as before.
-use Rattle.std.proofs.Common.{◌≡◌, ◌<◌, ◌≤◌, ℕ, zero, suc, slice_get, Bool, true, false, nat_le, nat_lt, Option, Some, None, List, [], ◌∷◌, refl, sym, ap, ◌∙◌, arith}
-use Rattle.std.proofs.lemmas.Bool.Decides.{nat_tests}
+use Rattle.std.proofs.Common.{◌≡◌, ℕ, zero, suc, slice_get, true, Option, Some, None, List, [], ◌∷◌, refl, sym, ap, ◌∙◌}
 use Rattle.ob0_scan.specs.declared.lexeme.Token.{Token}
 use Rattle.ob0_scan.specs.Reused.{words_in}
 use Rattle.ob0_scan.specs.Scanned.{Scanned, Word}
 use Rattle.ob0_tree.specs.Parsed.{Parsed}
 use Rattle.ob0_tree.specs.Places.{text_at, text_in, value_in, value_of}
 use Rattle.ob0_scope_table.specs.OneBody.{IsBodyChange, is_out}
-
-pub less_true : (a b : ℕ) → a < b → nat_lt a b ≡ true
-less_true a b less = one (nat_lt a b) refl
-  where
-    one : (x : Bool) → nat_lt a b ≡ x → x ≡ true
-    one true e = refl
-    one false e = absurd (grind (arith, nat_tests))
-
-pub less_false : (a b : ℕ) → b ≤ a → nat_lt a b ≡ false
-less_false a b le = one (nat_lt a b) refl
-  where
-    one : (x : Bool) → nat_lt a b ≡ x → x ≡ false
-    one false e = refl
-    one true e = absurd (grind (arith, nat_tests))
-
-pub le_true : (a b : ℕ) → a ≤ b → nat_le a b ≡ true
-le_true a b le = one (nat_le a b) refl
-  where
-    one : (x : Bool) → nat_le a b ≡ x → x ≡ true
-    one true e = refl
-    one false e = absurd (grind (arith, nat_tests))
-
-pub le_false : (a b : ℕ) → b < a → nat_le a b ≡ false
-le_false a b less = one (nat_le a b) refl
-  where
-    one : (x : Bool) → nat_le a b ≡ x → x ≡ false
-    one false e = refl
-    one true e = absurd (grind (arith, nat_tests))
-
--- ---- tokens outside the range have the same spellings as before
 
 -- returns the spelling of a token's word
 abbrev pub word_text : Option Word → List ℕ

@@ -4,8 +4,8 @@ use Rattle.std.proofs.Common.{◌≡◌, ℕ, zero, suc, ◌+◌, Bool, true, fa
 use Rattle.ob0_language_names.specs.DeclaredOnce.{are_distinct, block_names, block_once, declared_once, formals_once, procedure_names, procedure_once, procedures_once, types_once, variables_once}
 use Rattle.ob0_language_names.specs.Names.{Name, Naming, as_names, same_name}
 use Rattle.ob0_language_names.specs.Parts.{constant_names, formal_names, formal_sections, named_types, procedure_formals, procedure_name, section_constants, section_types, section_variables, variable_names}
-use Rattle.ob0_language_types.specs.Declarations.{after_types, after_variables, block_constructors, declare_first, formals_constructors, procedure_constructors, procedures_constructors, types_constructors, variables_constructors}
-use Rattle.ob0_language_types.specs.WellTyped.{TypeEnvironment, WellTyped, bind_typed, block_fits, body_fits, declare_typed, fits_over, heading, procedure_fits, procedures_fit, some_and, typed_parameters}
+use Rattle.ob0_language_types.specs.Declarations.{after_variables, block_constructors, declare_first, formals_constructors, procedure_constructors, procedures_constructors, types_constructors, variables_constructors}
+use Rattle.ob0_language_types.specs.WellTyped.{TypeEnvironment, WellTyped, bind_typed, block_fits, fits_over, heading, procedure_fits, procedures_fit, some_and, typed_parameters}
 use Rattle.ob0_tree.specs.Tree.{Tree, block, body, constants, declares, declares_procedure, end, has_body, is_module, item, items, maybe, module_text, more, none, procedure, type_names, variables}
 use Rattle.ob0_tree.specs.Parsed.{named_tree_of, tree_of}
 use Rattle.ob0_tree.specs.Places.{named, text_at, value_at}
@@ -15,6 +15,7 @@ use Rattle.ob0_scope_table.specs.OneBody.{closing_name}
 use Rattle.ob0_scope_table.specs.Resolution.{Resolution}
 use Rattle.ob0_scope_table.proofs.BodyReplaced.{names_outside, without_mapped}
 use Rattle.ob0_types_check.specs.NewBody.{FitsWithout}
+use Rattle.ob0_types_check.proofs.WithoutNames.{procedure_name-without}
 use Rattle.ob0_types.specs.NewBody.{WereTypesElsewhere}
 use Rattle.ob0_types.specs.OneBody.{OneBody, body_among, body_in_block, body_in_module, body_in_procedure}
 use Rattle.ob0_types.specs.declared.checked.ModuleTypes.{ModuleTypes}
@@ -36,16 +37,13 @@ mutual
   pub procedure_count : {N : Type 0} (way : Way) (p : Tree N (item procedure)) → procedure_constructors (procedure_without way p) ≡ procedure_constructors p
   procedure_count way (declares_procedure x fs b closing) = ap (λ n. formals_constructors (formal_sections fs) + n) (block_count way b)
 
-same_heading : {N : Type 0} (way : Way) (p : Tree N (item procedure)) → procedure_name (procedure_without way p) ≡ procedure_name p
-same_heading way (declares_procedure x fs b closing) = refl
-
 same_formals : {N : Type 0} (way : Way) (p : Tree N (item procedure)) → procedure_formals (procedure_without way p) ≡ procedure_formals p
 same_formals way (declares_procedure x fs b closing) = refl
 
 same_names : {N : Type 0} (k : ℕ) (way : Way) (ps : Tree N (items procedure)) → procedure_names (procedures_without k way ps) ≡ procedure_names ps
 same_names zero way end = refl
 same_names (suc k) way end = refl
-same_names zero way (more p rest) = ap (λ x. x ∷ procedure_names rest) (same_heading way p)
+same_names zero way (more p rest) = ap (λ x. x ∷ procedure_names rest) (procedure_name-without way p)
 same_names (suc k) way (more p rest) = ap (λ xs. procedure_name p ∷ xs) (same_names k way rest)
 
 -- ---- a part that fits also fits without the statements of a body

@@ -1,6 +1,6 @@
 -- The names that a module's declarations bind and the labels in its numbered tree are bound to the same objects,
 -- ordinal by ordinal. `Ordered` pairs the bindings of names and of labels with their ordinals and objects.
-use Rattle.std.proofs.Common.{◌≡◌, ℕ, suc, ◌+◌, true, ◌&&◌, List, [], ◌∷◌, ◌++◌, length, map, take, Option, Some, None, option_map, option_and_then, if◌then◌else◌, refl, sym, ap, ◌∙◌, subst, subst₂, le_refl, le_of_lt, append_assoc, arith, length-append, lit<}
+use Rattle.std.proofs.Common.{◌≡◌, ℕ, suc, ◌+◌, true, ◌&&◌, List, [], ◌∷◌, ◌++◌, length, map, take, Option, Some, None, option_map, option_and_then, if◌then◌else◌, refl, sym, ap, ◌∙◌, subst, subst₂, le_refl, le_of_lt, append_assoc, arith, length-append}
 use Rattle.std.proofs.lemmas.Bool.{and_parts}
 use Rattle.std.proofs.Math.Seq.{take-append_seam}
 use Rattle.ob0_tree.specs.Tree.{Tree, block, body, declares, declares_procedure, end, formals, has_body, is_module, item, items, maybe, module_text, more, procedure}
@@ -19,7 +19,8 @@ use Rattle.ob0_language_types.proofs.Agreeing.{Agree, HoldsOf}
 use Rattle.ob0_language_types.proofs.Constructors.{formals_constructors-relabel, procedure_constructors-relabel, types_constructors-relabel, variables_constructors-relabel}
 use Rattle.ob0_language_types.proofs.Literals.{some_inverse}
 use Rattle.ob0_language_types.proofs.TypesByOrdinal.{TypeNoted, TypedBelow, TypedBelow-weaken, TypedWithin, bind_typed-by_name, bind_typed-by_ordinal, block_fits-agrees, declarations_typed, label_typed, label_typed-formals, noted_parameters, noted_parameters-within, parameters_typed, typed_by_name, typed_by_ordinal, typed_names, typed_outermost, typed_scope}
-use Rattle.ob0_types_check.proofs.BoundModules.{held}
+use Rattle.ob0_language_types.proofs.Conditions.{hold-true}
+use Rattle.ob0_language_types.proofs.ConstantsDeclared.{predeclared-below}
 
 -- holds if the bindings have the ordinals from `k` up to `n`, without `n`, each once and the latest first
 abbrev pub InOrder : ℕ → ℕ → TypeNoted Name → Type 0
@@ -208,7 +209,7 @@ unfolding block_fits
 procedure-parts noted j statements x fs b closing rest h =
     let env : TypeEnvironment Name = typed_by_name noted in
     let p : Tree Name (item procedure) = declares_procedure x fs b closing in
-    let all = held (typed_parameters as_names env j (formal_sections fs)) (λ ps. procedure_fits as_names (bind_typed ps (heading x ps env)) j p && procedures_fit as_names (heading x ps env) (j + procedure_constructors p) statements rest) h in
+    let all = hold-true (typed_parameters as_names env j (formal_sections fs)) (λ ps. procedure_fits as_names (bind_typed ps (heading x ps env)) j p && procedures_fit as_names (heading x ps env) (j + procedure_constructors p) statements rest) h in
     let both = and_parts (procedure_fits as_names (bind_typed all.0 (heading x all.0 env)) j p) (procedures_fit as_names (heading x all.0 env) (j + procedure_constructors p) statements rest) all.2 in
     record { listed = all.0; typed = all.1; right = both.0; others = both.1 }
 
@@ -216,7 +217,7 @@ block-rest : (noted : TypeNoted Name) (j : ℕ) (cs : _) (ts : _) (vs : _) (ps :
     → (inner : TypeEnvironment Name) × (declare_block as_names (typed_by_name noted) j (has_body (declares cs ts vs ps) statements) ≡ Some inner) × (procedures_fit as_names inner (after_variables j (has_body (declares cs ts vs ps) statements)) statements ps ≡ true)
 unfolding block_fits
 block-rest noted j cs ts vs ps statements h =
-    held (declare_block as_names (typed_by_name noted) j (has_body (declares cs ts vs ps) statements)) (λ inner. procedures_fit as_names inner (after_variables j (has_body (declares cs ts vs ps) statements)) statements ps) h
+    hold-true (declare_block as_names (typed_by_name noted) j (has_body (declares cs ts vs ps) statements)) (λ inner. procedures_fit as_names inner (after_variables j (has_body (declares cs ts vs ps) statements)) statements ps) h
 
 mutual
   pub block-ordered : (noted : TypeNoted Name) (j k : ℕ) → TypedBelow k noted → (b : Tree Name block) → block_fits as_names (typed_by_name noted) j b ≡ true
@@ -291,9 +292,6 @@ mutual
       (procedures_bindings as_labels (typed_by_ordinal own) jr (relabel_procedures as_names (as_label as_names) (typed_scope own) q rest)) (block_bindings as_labels (typed_by_ordinal inner) jb (relabel_block as_names (as_label as_names) (typed_scope inner) m b) ++ bind_typed (label_typed (suc k) listed) (heading (declared k) (label_typed (suc k) listed) [])) later
       (ordered-append k m q (block_bindings as_names (typed_by_name inner) jb b) (bind_typed listed (heading x listed [])) (block_bindings as_labels (typed_by_ordinal inner) jb (relabel_block as_names (as_label as_names) (typed_scope inner) m b))
       (bind_typed (label_typed (suc k) listed) (heading (declared k) (label_typed (suc k) listed) [])) block_part heading_part))
-
-predeclared-below : TypedBelow 7 (typed_outermost as_names)
-predeclared-below = (lit< tt, (lit< tt, (lit< tt, (lit< tt, (lit< tt, (lit< tt, (lit< tt, tt)))))))
 
 -- The bindings of the names and of the labels in the block of a module that fits are in the order of their ordinals.
 pub module-block : (x : Name) (b : Tree Name block) (closing : Name) → fits_over as_names (is_module x b closing) ≡ true

@@ -22,7 +22,8 @@ use Rattle.ob0_types_check.proofs.MadeOnce.{Apart, apart_same, apart_then}
 use Rattle.ob0_types_check.proofs.PartsFitting.{PartsFit}
 use Rattle.ob0_types_check.proofs.DeclaredNames.{ConstantsPlaced, Numbering, TypesPlaced, VariablesPlaced, after_names-map, names_listed-mapped, scope_following}
 use Rattle.ob0_types_check.proofs.DeclaredKnown.{Later, IsKnownAt, agrees_where_seen, all_defined, defined, later_same, later_then, holds_defined, holds_later}
-use Rattle.ob0_types_check.proofs.DeclaredTypes.{none_both, type_denotes}
+use Rattle.ob0_types_check.proofs.DeclaredTypes.{type_denotes}
+use Rattle.ob0_types_check.proofs.Unreported.{none-reported}
 
 -- Holds if declarations give an environment that agrees with the state after them. Their ordinals go from `n` up to
 -- `m`, and the ordinals of their words ARRAY and RECORD from `k` up to `l`.
@@ -63,8 +64,8 @@ module _ (w : Numbering) (fit : PartsFit) where
   constants_declare (more (declares_constant x e) cs) k n p before scope env st placed h =
       let v : Reported (Option Value) = reported_constant (facts_at p true) e in
       let q : SoFar = define p (a_constant v.known) x in
-      let a = none_both (v.faults ++ []) (reported_constants q cs).faults h in
-      let c = fit.constants p before (text_at w.source) (meanings as_names env) e (agrees_where_seen w p true before n scope env st fit e placed.1) (none_both v.faults [] a.0).0 in
+      let a = none-reported (v.faults ++ []) (reported_constants q cs).faults h in
+      let c = fit.constants p before (text_at w.source) (meanings as_names env) e (agrees_where_seen w p true before n scope env st fit e placed.1) (none-reported v.faults [] a.0).0 in
       let given : constant_value (meanings as_names env) (named w.source e) ≡ Some c.value = ap (λ s. constant_value (meanings as_names env) (mapped (text_at w.source) (value_at s) e)) (sym st.source) ∙ c.given in
       let d = defined w p before n (a_constant v.known) x st.ordinals st.room st.table placed.0 in
       let next = holds_defined w p q before n scope env (a_constant v.known) (text_at w.source x) (meant.a_constant c.value) st d refl (c.value, c.known, refl, c.scalar) in
@@ -79,8 +80,8 @@ module _ (w : Numbering) (fit : PartsFit) where
   types_declare (more (declares_type x t) ds) k n p before scope env at st placed h =
       let u : Reported TypedAfter = reported_type 0 p t in
       let q : SoFar = define u.known.following (a_type u.known.of) x in
-      let a = none_both (u.faults ++ []) (reported_types q ds).faults h in
-      let s = type_denotes w fit n scope env 0 k t p before (omega (arith, at)) st placed.1 (none_both u.faults [] a.0).0 in
+      let a = none-reported (u.faults ++ []) (reported_types q ds).faults h in
+      let s = type_denotes w fit n scope env 0 k t p before (omega (arith, at)) st placed.1 (none-reported u.faults [] a.0).0 in
       let following = holds_later w n n n p u.known.following before s.after scope env (le_refl n) (le_refl n) st s.later in
       let d = defined w u.known.following s.after n (a_type u.known.of) x following.ordinals following.room following.table placed.0 in
       let next = holds_defined w u.known.following q s.after n scope env (a_type u.known.of) (text_at w.source x) (meant.a_type s.shape) following d refl (s.shape, s.known, refl) in
@@ -105,8 +106,8 @@ module _ (w : Numbering) (fit : PartsFit) where
       let xs : List ℕ = names_listed ns in
       let u : Reported TypedAfter = reported_type 0 p t in
       let q : SoFar = define_all u.known.following (a_variable u.known.of) xs in
-      let a = none_both (u.faults ++ []) (reported_variables q gs).faults h in
-      let s = type_denotes w fit n scope env 0 k t p before (omega (arith, at)) st placed.1 (none_both u.faults [] a.0).0 in
+      let a = none-reported (u.faults ++ []) (reported_variables q gs).faults h in
+      let s = type_denotes w fit n scope env 0 k t p before (omega (arith, at)) st placed.1 (none-reported u.faults [] a.0).0 in
       let following = holds_later w n n n p u.known.following before s.after scope env (le_refl n) (le_refl n) st s.later in
       let all = all_defined w u.known.following s.after n scope env (a_variable u.known.of) xs (meant.a_variable s.shape) following placed.0 refl (s.shape, s.known, refl) in
       let own : names_listed (named w.source ns) ≡ map (text_at w.source) xs = names_listed-mapped (text_at w.source) (value_at w.source) ns in

@@ -26,12 +26,12 @@ use Rattle.ob0_types_check.specs.ModuleLaws.{ModulesFit}
 use Rattle.ob0_types_check.proofs.DeclaredModules.{module_placed, numbering_of}
 use Rattle.ob0_types_check.proofs.DeclaredNames.{AreSeen, BlockPlaced, ConstantsPlaced, IsPlaced, Numbering, ProcedurePlaced, ProceduresPlaced, SectionsPlaced, TypesPlaced, VariablesPlaced, after_names-map, following_constants, following_procedure, following_types, following_variables, constants-mapped, formals-mapped, scope_following, types-mapped, variables-mapped}
 use Rattle.ob0_types_check.proofs.DeclaredKnown.{Later, NamesKnown, IsKnownAt, agrees_where_seen, defined, later_of, later_same, later_then, holds_defined, holds_later}
-use Rattle.ob0_types_check.proofs.DeclaredTypes.{none_both}
 use Rattle.ob0_types_check.proofs.BlocksDeclared.{Declared, constants_declare, declared_then, more_constructors, next_le, types_declare, variables_declare}
 use Rattle.ob0_types_check.proofs.BindingsByOrdinal.{procedure-listed, procedures-listed}
 use Rattle.ob0_types_check.proofs.BlocksBound.{BindingsKnown, as_long, bindings_both, bindings_later, heading_since, names_bind, sections_bind}
 use Rattle.ob0_types_check.proofs.MadeOnce.{Apart, apart_same, apart_then, apart_to}
 use Rattle.ob0_types_check.proofs.BlocksParameters.{formals_of, parameters_kept, parameters_over, sections_declare}
+use Rattle.ob0_types_check.proofs.Unreported.{none-reported}
 
 -- Holds if a part fits and its bindings agree with the state after it. The ordinals of the bindings go from `n` up to
 -- `m`, and the ordinals of the part's words ARRAY and RECORD from `k` up to `l`.
@@ -198,10 +198,10 @@ module _ (w : Numbering) (fit : PartsFit) where
         let t₃ : Reported SoFar = reported_variables t₂.known (section_variables vs) in
         let t₄ : Reported SoFar = reported_procedures t₃.known ps in
         let t₅ : Reported SoFar = reported_body t₄.known statements in
-        let a₁ = none_both t₁.faults (t₂.faults ++ (t₃.faults ++ (t₄.faults ++ t₅.faults))) h in
-        let a₂ = none_both t₂.faults (t₃.faults ++ (t₄.faults ++ t₅.faults)) a₁.1 in
-        let a₃ = none_both t₃.faults (t₄.faults ++ t₅.faults) a₂.1 in
-        let a₄ = none_both t₄.faults t₅.faults a₃.1 in
+        let a₁ = none-reported t₁.faults (t₂.faults ++ (t₃.faults ++ (t₄.faults ++ t₅.faults))) h in
+        let a₂ = none-reported t₂.faults (t₃.faults ++ (t₄.faults ++ t₅.faults)) a₁.1 in
+        let a₃ = none-reported t₃.faults (t₄.faults ++ t₅.faults) a₂.1 in
+        let a₄ = none-reported t₄.faults t₅.faults a₃.1 in
         let d = declarations_reported cs ts vs ps statements k n p before scope env at st placed.0 placed.1 placed.2 a₁.0 a₂.0 a₃.0 in
         let le : n ≤ first_procedure n b = le_trans (le-after_names n (constant_names (section_constants cs))) (le_trans (le-after_names (first_type n b) (named_types (section_types ts))) (le-after_names (first_variable n b) (variable_names (section_variables vs)))) in
         let rest = procedures_reported ps statements (after_variables k nb) (first_procedure n b) t₃.known d.after (following_variables w scope n b) d.env (omega (arith, at, d.apart.counted)) d.holds placed.3 a₄.0 a₄.1 in
@@ -220,7 +220,7 @@ module _ (w : Numbering) (fit : PartsFit) where
     procedures_reported (more d rest) statements k n p before scope env at st placed h last =
         let nd : Tree Name (item procedure) = named w.source d in
         let q : SoFar = (reported_procedure p d).known in
-        let a = none_both (reported_procedure p d).faults (reported_procedures q rest).faults h in
+        let a = none-reported (reported_procedure p d).faults (reported_procedures q rest).faults h in
         let f = procedure_reported d k n p before scope env at st placed.0 a.0 in
         let others = procedures_reported rest statements (k + procedure_constructors nd) (after_procedure (suc n) d) q f.after (following_procedure w scope n d) (heading (procedure_name nd) f.parameters env) (omega (arith, at, f.apart.counted)) f.holds placed.1 a.1 last in
         record {
@@ -242,7 +242,7 @@ module _ (w : Numbering) (fit : PartsFit) where
         let text : ℕ → Name = text_at w.source in
         let q₁ : SoFar = heading_known p x fs in
         let q : SoFar = (reported_block q₁ b).known in
-        let a = none_both (reported_sections (record { formals = []; following = p }) (formal_sections fs)).faults (reported_block q₁ b).faults h in
+        let a = none-reported (reported_sections (record { formals = []; following = p }) (formal_sections fs)).faults (reported_block q₁ b).faults h in
         let e = heading_reported x fs k n p before scope env at st placed.0 placed.1 a.0 in
         let first : ℕ = k + formals_constructors (formal_sections (named w.source fs)) in
         let own : ℕ = block_constructors (named w.source b) in
@@ -319,5 +319,5 @@ pub modules_fit-holds : ModulesFit
 unfolding reported_module fits_over
 modules_fit-holds r is h =
     let m = r.module_read in
-    let a = none_both (filter is_of_occurrences r.faults) (reported_block (at_first r) (module_block (tree_of m))).faults h in
+    let a = none-reported (filter is_of_occurrences r.faults) (reported_block (at_first r) (module_block (tree_of m))).faults h in
     (block_reported (numbering_of r) parts_fit (module_block (tree_of m)) 0 7 (at_first r) [] (predeclared_scope as_names) (outermost as_names) refl (first_holds r) (module_placed r is a.0) a.1).right

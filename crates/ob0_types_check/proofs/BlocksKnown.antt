@@ -28,8 +28,8 @@ use Rattle.ob0_types_check.proofs.BlocksBound.{BindingsKnown, bindings_both, bin
 use Rattle.ob0_types_check.proofs.BlocksFit.{block_reported, first_holds, room_first}
 use Rattle.ob0_types_check.proofs.DeclaredModules.{module_counted, module_placed, numbering_of}
 use Rattle.ob0_types_check.proofs.DeclaredNames.{after_block-mapped}
-use Rattle.ob0_types_check.proofs.DeclaredTypes.{none_both}
 use Rattle.ob0_types_check.proofs.PartsFitting.{parts_fit}
+use Rattle.ob0_types_check.proofs.Unreported.{none-reported}
 
 -- holds if the meaning of an ordinal agrees with the object that the ordinal is bound to
 abbrev IsKnownAs : List Shape → List (Option (Meaning TypeId)) → ℕ → Option (meant.Object Shape Signature) → Type 0
@@ -107,7 +107,7 @@ declarations_known-holds r is h =
     let b : Tree ℕ block = module_block (tree_of m) in
     let last : ℕ = after_block 7 b in
     let q : SoFar = (reported_block (at_first r) b).known in
-    let a = none_both (filter is_of_occurrences r.faults) (reported_block (at_first r) b).faults h in
+    let a = none-reported (filter is_of_occurrences r.faults) (reported_block (at_first r) b).faults h in
     let st = first_holds r in
     let f = block_reported (numbering_of r) parts_fit b 0 7 (at_first r) [] (predeclared_scope as_names) (outermost as_names) refl st (module_placed r is a.0) a.1 in
     let first : BindingsKnown f.after q.declared 0 7 (outermost as_names) =

@@ -28,7 +28,8 @@ use Rattle.ob0_types_check.proofs.PartsFitting.{PartsFit}
 use Rattle.ob0_types_check.proofs.DeclaredNames.{AreSeen, NamesPlaced, Numbering, SectionsPlaced, after_names-map, names_listed-mapped, scope_following}
 use Rattle.ob0_types_check.proofs.DeclaredShapes.{Longer}
 use Rattle.ob0_types_check.proofs.DeclaredKnown.{Later, NamesKnown, IsKnownAt, all_defined, defined, formals_kept, later_same, later_then, names_later, holds_defined, holds_kept, holds_later}
-use Rattle.ob0_types_check.proofs.DeclaredTypes.{none_both, type_denotes}
+use Rattle.ob0_types_check.proofs.DeclaredTypes.{type_denotes}
+use Rattle.ob0_types_check.proofs.Unreported.{none-reported}
 
 -- holds if the parameters with ordinals from `k` upwards are known as variables of their types
 abbrev pub ParametersKnown : List Shape → List (Option (Meaning TypeId)) → ℕ → List Name → List (TypedParameter Name) → Type 0
@@ -178,8 +179,8 @@ module _ (w : Numbering) (fit : PartsFit) where
       let xs : List ℕ = names_listed ns in
       let u : Reported TypedAfter = reported_type 0 h.following t in
       let g : KnownHeading = with_parameters h false xs u.known in
-      let a = none_both (u.faults ++ []) (reported_sections g fs).faults none in
-      let one = one_type false xs t k n h before scope env at st placed.0 placed.1 (none_both u.faults [] a.0).0 in
+      let a = none-reported (u.faults ++ []) (reported_sections g fs).faults none in
+      let one = one_type false xs t k n h before scope env at st placed.0 placed.1 (none-reported u.faults [] a.0).0 in
       let rest = sections_declare fs (k + constructors (named w.source t)) (after_names n xs) g one.after (scope_following w n xs scope) (bind_names (map (text_at w.source) xs) (meant.a_variable one.shape) env) (omega (arith, at, one.apart.counted)) one.holds placed.2 a.1 in
       let own : ℕ = constructors (named w.source t) in
       let others : ℕ = formals_constructors (named w.source fs) in
@@ -190,8 +191,8 @@ module _ (w : Numbering) (fit : PartsFit) where
       let xs : List ℕ = names_listed ns in
       let u : Reported TypedAfter = reported_type 0 h.following t in
       let g : KnownHeading = with_parameters h true xs u.known in
-      let a = none_both (u.faults ++ []) (reported_sections g fs).faults none in
-      let one = one_type true xs t k n h before scope env at st placed.0 placed.1 (none_both u.faults [] a.0).0 in
+      let a = none-reported (u.faults ++ []) (reported_sections g fs).faults none in
+      let one = one_type true xs t k n h before scope env at st placed.0 placed.1 (none-reported u.faults [] a.0).0 in
       let rest = sections_declare fs (k + constructors (named w.source t)) (after_names n xs) g one.after (scope_following w n xs scope) (bind_names (map (text_at w.source) xs) (meant.a_variable one.shape) env) (omega (arith, at, one.apart.counted)) one.holds placed.2 a.1 in
       let own : ℕ = constructors (named w.source t) in
       let others : ℕ = formals_constructors (named w.source fs) in

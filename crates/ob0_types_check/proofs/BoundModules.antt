@@ -1,6 +1,7 @@
 -- Each name of a well-typed module is bound. The proof is about the numbered tree. There, a label that has only a
 -- spelling is bound in no environment (`only-written`). So the proof needs no invariant.
-use Rattle.std.proofs.Common.{◌≡◌, ℕ, ◌+◌, Bool, true, false, ◌&&◌, List, [], ◌∷◌, ◌++◌, map, Option, Some, None, option_and_then, if◌then◌else◌, refl, sym, ap, ◌∙◌}
+use Rattle.std.proofs.Common.{◌≡◌, ℕ, ◌+◌, true, false, ◌&&◌, List, [], ◌∷◌, ◌++◌, map, Some, None, option_and_then, if◌then◌else◌, refl, sym, ap, ◌∙◌}
+use Rattle.std.proofs.lemmas.Bool.{and_parts}
 use Rattle.ob0_scan.specs.declared.fault.Code.TheVariants as code
 use Rattle.ob0_scan.specs.Scanned.{Scanned}
 use Rattle.ob0_tree.specs.Parsed.{named_tree_of, tree_of}
@@ -14,18 +15,14 @@ use Rattle.ob0_language_types.specs.Declarations.{after_types, after_variables, 
 use Rattle.ob0_language_types.specs.Environments.{from_binding, meanings, newest, outermost}
 use Rattle.ob0_language_types.specs.Expressions.{Object, a_constant, a_type, a_variable}
 use Rattle.ob0_language_types.specs.Typing.{constant_value, constructors, denoted}
-use Rattle.ob0_language_types.specs.WellTyped.{Signature, TypeEnvironment, TypedParameter, bind_names, bind_typed, block_fits, body_fits, declare_typed, fits_over, heading, some_and, procedure_fits, procedures_fit, section_mode, typed_parameters}
+use Rattle.ob0_language_types.specs.WellTyped.{Signature, TypeEnvironment, TypedParameter, bind_names, bind_typed, block_fits, body_fits, declare_typed, fits_over, heading, procedure_fits, procedures_fit, section_mode, typed_parameters}
 use Rattle.ob0_language_types.proofs.Proved.{fits_by_ordinal-holds}
+use Rattle.ob0_language_types.proofs.Conditions.{hold-true}
 use Rattle.ob0_language_values.specs.Values.{Shape}
 use Rattle.ob0_types_check.specs.WellTypedLaws.{NamesBound}
 use Rattle.ob0_types_check.proofs.BoundParts.{each-of-both, sequence-bound, type-bound, value-bound}
 use Rattle.ob0_types_check.proofs.DeclaredNames.{Each}
-use Rattle.ob0_types_check.proofs.EqualShapes.{each-true}
 use Rattle.ob0_types_check.proofs.TypedOperands.{and-then}
-
-pub held : {A : Type 0} (o : Option A) (test : A → Bool) → some_and o test ≡ true → (a : A) × (o ≡ Some a) × (test a ≡ true)
-held None test h = absurd (cc)
-held (Some a) test h = (a, refl, h)
 
 module _ {N : Type 0} (P : N → Type 0) (naming : Naming N) (bound : (env : TypeEnvironment N) (x : N) (o : Object Shape Signature) → newest (from_binding naming env x) ≡ Some o → P x) where
   constants-bound : (cs : Tree N (items constant)) (env after : TypeEnvironment N) → declare_constants naming env cs ≡ Some after → Each P (occurrences cs)
@@ -94,7 +91,7 @@ module _ {N : Type 0} (P : N → Type 0) (naming : Naming N) (bound : (env : Typ
     pub block-bound : (b : Tree N block) (k : ℕ) (env : TypeEnvironment N) → block_fits naming env k b ≡ true → Each P (occurrences b)
     block-bound (has_body (declares cs ts vs ps) statements) k env h =
         let b : Tree N block = has_body (declares cs ts vs ps) statements in
-        let (inner, whole, fitting) = held (option_and_then (declare_typed naming (after_types k b) (section_variables vs)) (declare_first naming env k b)) (λ inner. procedures_fit naming inner (after_variables k b) statements ps) h in
+        let (inner, whole, fitting) = hold-true (option_and_then (declare_typed naming (after_types k b) (section_variables vs)) (declare_first naming env k b)) (λ inner. procedures_fit naming inner (after_variables k b) statements ps) h in
         let (first, hf, hv) = and-then (declare_typed naming (after_types k b) (section_variables vs)) (declare_first naming env k b) inner whole in
         let (first_env, hc, ht) = and-then (λ with_constants. declare_types naming with_constants k (section_types ts)) (declare_constants naming env (section_constants cs)) first hf in
         let rest = procedures-bound ps statements (after_variables k b) inner fitting in
@@ -106,8 +103,8 @@ module _ {N : Type 0} (P : N → Type 0) (naming : Naming N) (bound : (env : Typ
     procedures-bound : (ps : Tree N (items procedure)) (statements : Tree N (maybe body)) (k : ℕ) (env : TypeEnvironment N) → procedures_fit naming env k statements ps ≡ true → Each P (occurrences ps) × Each P (occurrences statements)
     procedures-bound end statements k env h = (tt, body-bound statements env h)
     procedures-bound (more p rest) statements k env h =
-        let (ps, hp, fit) = held (typed_parameters naming env k (procedure_formals p)) (λ ps. procedure_fits naming (bind_typed ps (heading (procedure_name p) ps env)) k p && procedures_fit naming (heading (procedure_name p) ps env) (k + procedure_constructors p) statements rest) h in
-        let parts = each-true (procedure_fits naming (bind_typed ps (heading (procedure_name p) ps env)) k p) _ fit in
+        let (ps, hp, fit) = hold-true (typed_parameters naming env k (procedure_formals p)) (λ ps. procedure_fits naming (bind_typed ps (heading (procedure_name p) ps env)) k p && procedures_fit naming (heading (procedure_name p) ps env) (k + procedure_constructors p) statements rest) h in
+        let parts = and_parts (procedure_fits naming (bind_typed ps (heading (procedure_name p) ps env)) k p) _ fit in
         let others = procedures-bound rest statements (k + procedure_constructors p) (heading (procedure_name p) ps env) parts.1 in
         (each-of-both P (occurrences p) (occurrences rest) (procedure-bound p k (bind_typed ps (heading (procedure_name p) ps env)) (sections-bound (procedure_formals p) k env ps hp) parts.0) others.0, others.1)
 

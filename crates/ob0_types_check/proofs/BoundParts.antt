@@ -1,15 +1,16 @@
 -- Each name has a meaning if it occurs in an expression that has a type, in a written type that denotes a type, or in
 -- well-typed statements.
 use Rattle.std.proofs.Common.{◌≡◌, ℕ, suc, ◌+◌, true, true≢false, List, [], ◌∷◌, ◌++◌, map, Option, Some, None, option_map, option_and_then, refl, sym, ◌∙◌}
+use Rattle.std.proofs.lemmas.Bool.{and_parts}
 use Rattle.ob0_language_names.specs.Parts.{names_listed}
 use Rattle.ob0_tree.specs.Tree.{Tree, addend, adds, arguments, array_type, assigns, branches, calls, compares, designator, else_branch, else_part, elsif_branch, elsif_part, empty, end, expression, factor, field, fields, further_argument, further_fields, further_statement, index, integer, items, maybe, more, multiplier, multiplies, named_type, negation, no_arguments, no_fields, none, occurrences, one, parenthesised, product, record_type, relates, repeat_loop, runs, selector, sequence, simple, some_arguments, some_fields, statement, sum, term, then_argument, then_fields, then_statement, while_loop, written_type}
 use Rattle.ob0_language_types.specs.Arguments.{arguments_listed, further_arguments}
 use Rattle.ob0_language_types.specs.Expressions.{Meanings, Object, a_constant, a_procedure, a_standard, a_type, a_variable, evaluate}
 use Rattle.ob0_language_types.specs.Typing.{add_type, array_length, complement_type, constant_of, constant_value, constants_only, denoted, denoted_group, denoted_groups, lone_designator, element_type, field_type, given_value, group_constructors, multiply_type, object_type, relation_type, sign_type, type_at, type_of, type_of_addends, type_of_factor, type_of_multipliers, type_of_name, type_of_simple, type_of_term, with_fields, within_limits}
 use Rattle.ob0_language_types.specs.WellTyped.{Formal, Mode, Signature, Typed, agree, argument_fits, arguments_fit, by_place, by_value, call_fits, condition_fits, else_fits, elsifs_fit, sequence_fits, signature_of, statement_fits, statements_fit, variable_type}
+use Rattle.ob0_language_types.proofs.Conditions.{agree-true}
 use Rattle.ob0_language_values.specs.Values.{FieldShapes, Shape, Value, array_shape, boolean_shape, record_shape}
 use Rattle.ob0_types_check.proofs.DeclaredNames.{Each}
-use Rattle.ob0_types_check.proofs.EqualShapes.{agree-equal, each-true}
 use Rattle.ob0_types_check.proofs.TypedOperands.{and-then}
 use Rattle.ob0_types_check.proofs.Unreported.{some-none}
 
@@ -117,7 +118,7 @@ module _ {N V Q : Type 0} (P : N → Type 0) (meaning : Meanings N V Q) (bound :
 module _ {N : Type 0} (P : N → Type 0) (meaning : Typed N) (bound : (x : N) (o : Object Shape Signature) → meaning.object_for x ≡ Some o → P x) where
   condition-bound : (e : Tree N expression) → condition_fits meaning e ≡ true → Each P (occurrences e)
   unfolding condition_fits
-  condition-bound e h = let (s, truth, typed) = agree-equal (Some boolean_shape) (type_of meaning e) h in expression-bound P meaning bound e s typed
+  condition-bound e h = let (s, truth, typed) = agree-true (Some boolean_shape) (type_of meaning e) h in expression-bound P meaning bound e s typed
 
   variable-bound : (x : N) (path : Tree N (items selector)) (s : Shape) → variable_type meaning (Some (x, path)) ≡ Some s → P x × Each P (occurrences path)
   unfolding variable_type
@@ -150,8 +151,8 @@ module _ {N : Type 0} (P : N → Type 0) (meaning : Typed N) (bound : (x : N) (o
   argument-bound f e h = by-mode f.mode h
     where
       by-mode : (m : Mode) → agree (Some f.shape) (elim m [ by_value ↦ type_of meaning e | by_place ↦ variable_type meaning (lone_designator e) ]) ≡ true → Each P (occurrences e)
-      by-mode by_value h = let (s, own, typed) = agree-equal (Some f.shape) (type_of meaning e) h in expression-bound P meaning bound e s typed
-      by-mode by_place h = let (s, own, typed) = agree-equal (Some f.shape) (variable_type meaning (lone_designator e)) h in place-bound e s typed
+      by-mode by_value h = let (s, own, typed) = agree-true (Some f.shape) (type_of meaning e) h in expression-bound P meaning bound e s typed
+      by-mode by_place h = let (s, own, typed) = agree-true (Some f.shape) (variable_type meaning (lone_designator e)) h in place-bound e s typed
 
   abbrev EachBound : List (Tree N expression) → Type 0
   EachBound [] = Unit {0}
@@ -163,7 +164,7 @@ module _ {N : Type 0} (P : N → Type 0) (meaning : Typed N) (bound : (x : N) (o
   arguments-bound [] (e ∷ es) h = absurd (true≢false (sym h))
   arguments-bound (f ∷ fs) [] h = absurd (true≢false (sym h))
   arguments-bound (f ∷ fs) (e ∷ es) h =
-      let parts = each-true (argument_fits meaning f e) (arguments_fit meaning fs es) h in (argument-bound f e parts.0, arguments-bound fs es parts.1)
+      let parts = and_parts (argument_fits meaning f e) (arguments_fit meaning fs es) h in (argument-bound f e parts.0, arguments-bound fs es parts.1)
 
   further-listed : (es : Tree N (items further_argument)) → EachBound (further_arguments es) → Each P (occurrences es)
   further-listed end h = tt
@@ -190,35 +191,35 @@ module _ {N : Type 0} (P : N → Type 0) (meaning : Typed N) (bound : (x : N) (o
     statement-bound : (a : Tree N statement) → statement_fits meaning a ≡ true → Each P (occurrences a)
     statement-bound empty h = tt
     statement-bound (assigns x path e) h =
-        let (s, left, right) = agree-equal (variable_type meaning (Some (x, path))) (type_of meaning e) h in
+        let (s, left, right) = agree-true (variable_type meaning (Some (x, path))) (type_of meaning e) h in
         let parts = variable-bound x path s left in
         (parts.0, each-of-both P (occurrences path) (occurrences e) parts.1 (expression-bound P meaning bound e s right))
     statement-bound (calls x es) h = call-bound x es h
     statement-bound (branches e statements rest last) h =
-        let first = each-true (condition_fits meaning e) _ h in
-        let second = each-true (sequence_fits meaning statements) _ first.1 in
-        let third = each-true (elsifs_fit meaning rest) _ second.1 in
+        let first = and_parts (condition_fits meaning e) _ h in
+        let second = and_parts (sequence_fits meaning statements) _ first.1 in
+        let third = and_parts (elsifs_fit meaning rest) _ second.1 in
         each-of-both P (occurrences e) _ (condition-bound e first.0)
         (each-of-both P (occurrences statements) _ (sequence-bound statements second.0) (each-of-both P (occurrences rest) (occurrences last) (elsifs-bound rest third.0) (else-bound last third.1)))
     statement-bound (while_loop e statements) h =
-        let parts = each-true (condition_fits meaning e) _ h in each-of-both P (occurrences e) (occurrences statements) (condition-bound e parts.0) (sequence-bound statements parts.1)
+        let parts = and_parts (condition_fits meaning e) _ h in each-of-both P (occurrences e) (occurrences statements) (condition-bound e parts.0) (sequence-bound statements parts.1)
     statement-bound (repeat_loop statements e) h =
-        let parts = each-true (sequence_fits meaning statements) _ h in each-of-both P (occurrences statements) (occurrences e) (sequence-bound statements parts.0) (condition-bound e parts.1)
+        let parts = and_parts (sequence_fits meaning statements) _ h in each-of-both P (occurrences statements) (occurrences e) (sequence-bound statements parts.0) (condition-bound e parts.1)
 
     pub sequence-bound : (a : Tree N sequence) → sequence_fits meaning a ≡ true → Each P (occurrences a)
     sequence-bound (runs a rest) h =
-        let parts = each-true (statement_fits meaning a) _ h in each-of-both P (occurrences a) (occurrences rest) (statement-bound a parts.0) (statements-bound rest parts.1)
+        let parts = and_parts (statement_fits meaning a) _ h in each-of-both P (occurrences a) (occurrences rest) (statement-bound a parts.0) (statements-bound rest parts.1)
 
     statements-bound : (a : Tree N (items further_statement)) → statements_fit meaning a ≡ true → Each P (occurrences a)
     statements-bound end h = tt
     statements-bound (more (then_statement a) rest) h =
-        let parts = each-true (statement_fits meaning a) _ h in each-of-both P (occurrences a) (occurrences rest) (statement-bound a parts.0) (statements-bound rest parts.1)
+        let parts = and_parts (statement_fits meaning a) _ h in each-of-both P (occurrences a) (occurrences rest) (statement-bound a parts.0) (statements-bound rest parts.1)
 
     elsifs-bound : (a : Tree N (items elsif_part)) → elsifs_fit meaning a ≡ true → Each P (occurrences a)
     elsifs-bound end h = tt
     elsifs-bound (more (elsif_branch e statements) rest) h =
-        let first = each-true (condition_fits meaning e) _ h in
-        let second = each-true (sequence_fits meaning statements) _ first.1 in
+        let first = and_parts (condition_fits meaning e) _ h in
+        let second = and_parts (sequence_fits meaning statements) _ first.1 in
         each-of-both P (occurrences e ++ occurrences statements) (occurrences rest) (each-of-both P (occurrences e) (occurrences statements) (condition-bound e first.0) (sequence-bound statements second.0)) (elsifs-bound rest second.1)
 
     else-bound : (a : Tree N (maybe else_part)) → else_fits meaning a ≡ true → Each P (occurrences a)

@@ -2,7 +2,6 @@
 -- gathered from the left, but their shapes are built from the right. So `GroupGathers` is about the fields of a group
 -- before any fields that follow. Definitions nest two sums differently; `grouped` proves that they are equal.
 use Rattle.std.proofs.Common.{◌≡◌, ℕ, suc, ◌+◌, Bool, true, false, List, [], ◌∷◌, ◌++◌, length, map, Option, Some, None, option_and_then, if◌then◌else◌, refl, sym, ap, ◌∙◌, subst, subst₂, le_refl, arith}
-use Rattle.ob0_scan.specs.declared.fault.Fault.{Fault}
 use Rattle.ob0_tree.specs.Places.{named, text_at, value_at}
 use Rattle.ob0_tree.specs.Tree.{Tree, array_type, end, fields, further_fields, items, mapped, more, named_type, no_fields, occurrences, record_type, some_fields, then_fields, written_type}
 use Rattle.ob0_language_names.specs.Names.{Name, as_names}
@@ -27,11 +26,7 @@ use Rattle.ob0_types_check.proofs.PartsFitting.{PartsFit}
 use Rattle.ob0_types_check.proofs.DeclaredNames.{AreSeen, IsSeen, Numbering, each_part, names_listed-mapped}
 use Rattle.ob0_types_check.proofs.DeclaredShapes.{GatheredAgrees, SizeAgrees, array_sized, followed, followed-assoc, followed-nothing, gathered_kept, is_limited, last_array, last_record, longer_more, longer_then, names_put, record_sized, size_agrees, table_long, table_more, with_fields-followed}
 use Rattle.ob0_types_check.proofs.DeclaredKnown.{Later, IsKnownAt, agrees_where_seen, later_same, later_then, seen_holds, holds_later}
-
--- If two lists of faults joined together are empty, each of them is.
-pub none_both : (xs ys : List Fault) → xs ++ ys ≡ [] → (xs ≡ []) × (ys ≡ [])
-none_both [] ys e = (refl, e)
-none_both (x ∷ xs) ys e = absurd (cc)
+use Rattle.ob0_types_check.proofs.Unreported.{none-reported}
 
 -- Holds if a type's text denotes a shape and the state after it agrees with this shape. `k` is the ordinal of its first
 -- word ARRAY or RECORD, and `l` the next ordinal after its last.
@@ -212,7 +207,7 @@ module _ (w : Numbering) (fit : PartsFit) (n : ℕ) (scope : Scope Name) (env : 
     pub type_denotes : (around k : ℕ) (t : Tree ℕ written_type) (p : SoFar) (before : List Shape) → length before + around ≡ k → IsKnownAt w p before n scope env → AreSeen w scope t → (reported_type around p t).faults ≡ []
         → Denotes n p before k (k + constructors (named w.source t)) (denoted (meanings as_names env) k (named w.source t)) (reported_type around p t).known
     type_denotes around k (named_type x) p before at st seen e =
-        named_denotes n p p before k (k + 0) (omega arith) x ((facts_at p false).object_for x) ((meanings as_names env).object_for (text_at w.source x)) st.table (seen_holds w p false before n scope env st x seen.0) (none_both (type_meant (facts_at p false) x ((facts_at p false).object_for x)).faults [] e).0
+        named_denotes n p p before k (k + 0) (omega arith) x ((facts_at p false).object_for x) ((meanings as_names env).object_for (text_at w.source x)) st.table (seen_holds w p false before n scope env st x seen.0) (none-reported (type_meant (facts_at p false) x ((facts_at p false).object_for x)).faults [] e).0
     type_denotes around k (array_type e u) p before at st seen h =
         let parts = each_part (IsSeen w scope) (occurrences e) (occurrences u) seen in
         let o : Operand TypeId = (reported_expression (facts_at p true) e).known in
@@ -220,9 +215,9 @@ module _ (w : Numbering) (fit : PartsFit) (n : ℕ) (scope : Scope Name) (env : 
         let el : Reported TypedAfter = reported_type (suc around) p u in
         let ordinal : ℕ = ordinal_here around p in
         let here : ordinal ≡ k = omega (arith, table_long p.made before st.table, at) in
-        let a = none_both (reported_expression (facts_at p true) e).faults (l.faults ++ (el.faults ++ (array_made ordinal o l.known el.known).faults)) h in
-        let b = none_both l.faults (el.faults ++ (array_made ordinal o l.known el.known).faults) a.1 in
-        let c = none_both el.faults (array_made ordinal o l.known el.known).faults b.1 in
+        let a = none-reported (reported_expression (facts_at p true) e).faults (l.faults ++ (el.faults ++ (array_made ordinal o l.known el.known).faults)) h in
+        let b = none-reported l.faults (el.faults ++ (array_made ordinal o l.known el.known).faults) a.1 in
+        let c = none-reported el.faults (array_made ordinal o l.known el.known).faults b.1 in
         let long = fit.lengths p before (text_at w.source) (meanings as_names env) e (agrees_where_seen w p true before n scope env st fit e parts.0) (λ i. a.0 i ++ b.0 i) in
         let given : constant_value (meanings as_names env) (named w.source e) ≡ Some long.value = ap (λ s. constant_value (meanings as_names env) (mapped (text_at w.source) (value_at s) e)) (sym st.source) ∙ long.given in
         let element = type_denotes (suc around) (suc k) u p before (omega (arith, at)) st parts.1 c.0 in
@@ -236,8 +231,8 @@ module _ (w : Numbering) (fit : PartsFit) (n : ℕ) (scope : Scope Name) (env : 
         let here : ordinal ≡ k = omega (arith, table_long p.made before st.table, at) in
         let first : Reported Gathered = reported_fields (suc around) (nothing_gathered p) g in
         let all : Reported Gathered = reported_groups (suc around) first.known rest in
-        let a = none_both first.faults (all.faults ++ (record_made word ordinal all.known).faults) h in
-        let b = none_both all.faults (record_made word ordinal all.known).faults a.1 in
+        let a = none-reported first.faults (all.faults ++ (record_made word ordinal all.known).faults) h in
+        let b = none-reported all.faults (record_made word ordinal all.known).faults a.1 in
         let one = group_gathers (suc around) (suc k) g (nothing_gathered p) before no_field_shape (omega (arith, at)) st parts.0 (nothing_agrees before p) a.0 in
         let later = holds_later w n n n p first.known.following before one.gathers.after scope env (le_refl n) (le_refl n) st one.gathers.later in
         let other = groups_gather (suc around) (suc k + group_constructors (named w.source g)) rest first.known one.gathers.after one.own (omega (arith, at, one.gathers.apart.counted)) later parts.1 one.gathers.agrees b.0 in
@@ -252,7 +247,7 @@ module _ (w : Numbering) (fit : PartsFit) (n : ℕ) (scope : Scope Name) (env : 
     group_gathers around k no_fields g before first at st seen agrees h = record { own = no_field_shape; given_is = λ ys. refl; gathers = nothing_more n g before k (k + 0) (omega arith) first st.table agrees }
     group_gathers around k (some_fields ns t) g before first at st seen agrees h =
         let u : Reported TypedAfter = reported_type around g.following t in
-        let d = type_denotes around k t g.following before at st seen (none_both u.faults [] h).0 in
+        let d = type_denotes around k t g.following before at st seen (none-reported u.faults [] h).0 in
         names_gather n w g before k (k + constructors (named w.source t)) first (names_listed ns) (map (λ x. x) (names_listed (named w.source ns))) (denoted (meanings as_names env) k (named w.source t)) u.known st.source
         (map-same (names_listed (named w.source ns)) ∙ names_listed-mapped (text_at w.source) (value_at w.source) ns) agrees d
 
@@ -263,7 +258,7 @@ module _ (w : Numbering) (fit : PartsFit) (n : ℕ) (scope : Scope Name) (env : 
         let parts = each_part (IsSeen w scope) (occurrences f) (occurrences rest) seen in
         let next : Reported Gathered = reported_fields around g f in
         let all : Reported Gathered = reported_groups around next.known rest in
-        let a = none_both next.faults all.faults h in
+        let a = none-reported next.faults all.faults h in
         let one = group_gathers around k f g before first at st parts.0 agrees a.0 in
         let later = holds_later w n n n g.following next.known.following before one.gathers.after scope env (le_refl n) (le_refl n) st one.gathers.later in
         let other = groups_gather around (k + group_constructors (named w.source f)) rest next.known one.gathers.after (followed first one.own) (omega (arith, at, one.gathers.apart.counted)) later parts.1 one.gathers.agrees a.1 in

@@ -1,5 +1,6 @@
 -- Statements fit if no fault is reported for them.
 use Rattle.std.proofs.Common.{◌≡◌, ℕ, Bool, true, false, ◌&&◌, not, nat_eq, List, [], ◌∷◌, ◌++◌, length, map, Option, Some, None, if◌then◌else◌, refl, sym, ap, ◌∙◌, arith, eqb-true}
+use Rattle.std.proofs.lemmas.Bool.{and_from}
 use Rattle.ob0_scan.specs.declared.fault.Code.TheVariants as code
 use Rattle.ob0_types_table.specs.Tables.{mode_of}
 use Rattle.ob0_types_table.proofs.SameShapes.{same_shape-refl}
@@ -25,7 +26,7 @@ use Rattle.ob0_types_check.proofs.FittingExpressions.{FitsSelectors, selectors-f
 use Rattle.ob0_types_check.proofs.FittingNames.{tokens-fit}
 use Rattle.ob0_types_check.proofs.FittingPlaces.{operand-fits, variable-typed}
 use Rattle.ob0_types_check.proofs.Operands.{requested-fits}
-use Rattle.ob0_types_check.proofs.Unreported.{both-true, none-reported, second-reported}
+use Rattle.ob0_types_check.proofs.Unreported.{none-reported, second-reported}
 
 pub agree-same : (s : Shape) (a b : Option Shape) → a ≡ Some s → b ≡ Some s → agree a b ≡ true
 agree-same s a b p q = (λ i. agree (p i) (q i)) ∙ same_shape-refl s
@@ -131,7 +132,7 @@ module _ {T N : Type 0} (facts : Facts T) (shape : T → Option Shape) (types : 
   arguments-fit (f ∷ fs) (g ∷ gs) [] a n k h = absurd (omega (arith, n))
   arguments-fit (f ∷ fs) (g ∷ gs) (e ∷ es) a n k h =
       let parts = none-reported (reported_argument facts f e) _ h in
-      both-true (argument_fits meaning g (here e)) (arguments_fit meaning gs (map here es)) (argument-fits f g e a.0 a.1 k.0 parts.0) (arguments-fit fs gs es a.2 (omega (arith, n)) k.1 parts.1)
+      and_from (argument_fits meaning g (here e)) (arguments_fit meaning gs (map here es)) (argument-fits f g e a.0 a.1 k.0 parts.0) (arguments-fit fs gs es a.2 (omega (arith, n)) k.1 parts.1)
 
   further-mapped : (es : Tree ℕ (items further_argument)) → further_arguments (here es) ≡ map here (further_arguments es)
   further-mapped end = refl
@@ -181,29 +182,29 @@ module _ {T N : Type 0} (facts : Facts T) (shape : T → Option Shape) (types : 
         let first = none-reported (reported_condition facts e) _ h in
         let second = none-reported (reported_sequence facts statements) _ first.1 in
         let third = none-reported (reported_elsifs facts rest) _ second.1 in
-        both-true _ _ (condition-fits e tokens.0 first.0)
-        (both-true _ _ (sequence-fits statements others.0 second.0) (both-true _ _ (elsifs-fit rest ends.0 third.0) (else-fits last ends.1 third.1)))
+        and_from _ _ (condition-fits e tokens.0 first.0)
+        (and_from _ _ (sequence-fits statements others.0 second.0) (and_from _ _ (elsifs-fit rest ends.0 third.0) (else-fits last ends.1 third.1)))
     statement-fits (while_loop e statements) k h =
         let tokens = split (ids e) (ids statements) k in
         let parts = none-reported (reported_condition facts e) _ h in
-        both-true _ _ (condition-fits e tokens.0 parts.0) (sequence-fits statements tokens.1 parts.1)
+        and_from _ _ (condition-fits e tokens.0 parts.0) (sequence-fits statements tokens.1 parts.1)
     statement-fits (repeat_loop statements e) k h =
         let tokens = split (ids statements) (ids e) k in
         let parts = none-reported (reported_sequence facts statements) _ h in
-        both-true _ _ (sequence-fits statements tokens.0 parts.0) (condition-fits e tokens.1 parts.1)
+        and_from _ _ (sequence-fits statements tokens.0 parts.0) (condition-fits e tokens.1 parts.1)
 
     pub sequence-fits : (a : Tree ℕ sequence) → Agreed a → reported_sequence facts a ≡ [] → sequence_fits meaning (here a) ≡ true
     sequence-fits (runs a rest) k h =
         let tokens = split (ids a) (ids rest) k in
         let parts = none-reported (reported_statement facts a) _ h in
-        both-true _ _ (statement-fits a tokens.0 parts.0) (statements-fit rest tokens.1 parts.1)
+        and_from _ _ (statement-fits a tokens.0 parts.0) (statements-fit rest tokens.1 parts.1)
 
     statements-fit : (a : Tree ℕ (items further_statement)) → Agreed a → reported_statements facts a ≡ [] → statements_fit meaning (here a) ≡ true
     statements-fit end k h = refl
     statements-fit (more (then_statement a) rest) k h =
         let tokens = split (ids a) (ids rest) k in
         let parts = none-reported (reported_statement facts a) _ h in
-        both-true _ _ (statement-fits a tokens.0 parts.0) (statements-fit rest tokens.1 parts.1)
+        and_from _ _ (statement-fits a tokens.0 parts.0) (statements-fit rest tokens.1 parts.1)
 
     elsifs-fit : (a : Tree ℕ (items elsif_part)) → Agreed a → reported_elsifs facts a ≡ [] → elsifs_fit meaning (here a) ≡ true
     elsifs-fit end k h = refl
@@ -212,7 +213,7 @@ module _ {T N : Type 0} (facts : Facts T) (shape : T → Option Shape) (types : 
         let inner = split (ids e) (ids statements) tokens.0 in
         let first = none-reported (reported_condition facts e) _ h in
         let second = none-reported (reported_sequence facts statements) _ first.1 in
-        both-true _ _ (condition-fits e inner.0 first.0) (both-true _ _ (sequence-fits statements inner.1 second.0) (elsifs-fit rest tokens.1 second.1))
+        and_from _ _ (condition-fits e inner.0 first.0) (and_from _ _ (sequence-fits statements inner.1 second.0) (elsifs-fit rest tokens.1 second.1))
 
     else-fits : (a : Tree ℕ (maybe else_part)) → Agreed a → reported_else facts a ≡ [] → else_fits meaning (here a) ≡ true
     else-fits none k h = refl

@@ -30,7 +30,6 @@ pub mod BlocksKnown
 pub mod TableKnown
 pub mod Reported
 pub mod ReportedWith
-pub mod EqualShapes
 pub mod TypedOperands
 pub mod TypedExpressions
 pub mod TypedNames

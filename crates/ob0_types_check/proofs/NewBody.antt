@@ -17,13 +17,13 @@ use Rattle.ob0_types_check.specs.SoFar.{SoFar, at_first}
 use Rattle.ob0_types_check.specs.SomeBodies.{Walked, block_with, body_if, every, is_among, module_with, procedure_with, procedures_with, with_faulty}
 use Rattle.ob0_types_check.proofs.BlocksFit.{body_known, first_holds, heading_known}
 use Rattle.ob0_types_check.proofs.DeclaredModules.{numbering_of}
-use Rattle.ob0_types_check.proofs.DeclaredTypes.{none_both}
 use Rattle.ob0_types_check.proofs.MadeOnce.{fresh_first}
 use Rattle.ob0_types_check.proofs.PartsFitting.{parts_fit}
 use Rattle.ob0_types_check.proofs.ReportedWith.{further, procedure_forgets, procedures_forget}
 use Rattle.ob0_types_check.proofs.TypedModules.{block_right}
 use Rattle.ob0_types_check.proofs.TypedTypes.{parts_right}
 use Rattle.ob0_types_check.proofs.WithoutNames.{left_placed}
+use Rattle.ob0_types_check.proofs.Unreported.{none-reported}
 
 -- ---- the state is the same without the statements of a body
 
@@ -81,10 +81,10 @@ module _ (wanted : ℕ → Bool) where
         let t₃ : Reported SoFar = reported_variables t₂.known (section_variables vs) in
         let t₄ : Reported SoFar = reported_procedures t₃.known ps in
         let t₅ : Reported SoFar = reported_body t₄.known a in
-        let a₁ = none_both t₁.faults (t₂.faults ++ (t₃.faults ++ (t₄.faults ++ t₅.faults))) h in
-        let a₂ = none_both t₂.faults (t₃.faults ++ (t₄.faults ++ t₅.faults)) a₁.1 in
-        let a₃ = none_both t₃.faults (t₄.faults ++ t₅.faults) a₂.1 in
-        let a₄ = none_both t₄.faults t₅.faults a₃.1 in
+        let a₁ = none-reported t₁.faults (t₂.faults ++ (t₃.faults ++ (t₄.faults ++ t₅.faults))) h in
+        let a₂ = none-reported t₂.faults (t₃.faults ++ (t₄.faults ++ t₅.faults)) a₁.1 in
+        let a₃ = none-reported t₃.faults (t₄.faults ++ t₅.faults) a₂.1 in
+        let a₄ = none-reported t₄.faults t₅.faults a₃.1 in
         let last : Walked = further w t₄.known in
         nothing_then t₁ (λ q. reported_types q (section_types ts) >>= (λ r. reported_variables r (section_variables vs) >>= (λ s. procedures_with wanted (further w s) ps >>= (λ t. body_if (wanted own) own t a)))) (further w t₅.known) a₁.0
         (nothing_then t₂ (λ r. reported_variables r (section_variables vs) >>= (λ s. procedures_with wanted (further w s) ps >>= (λ t. body_if (wanted own) own t a))) (further w t₅.known) a₂.0
@@ -96,14 +96,14 @@ module _ (wanted : ℕ → Bool) where
     procedures_nothing w end h = refl
     procedures_nothing w (more d rest) h =
         let t : Reported SoFar = reported_procedure w.so_far d in
-        let a = none_both t.faults (reported_procedures t.known rest).faults h in
+        let a = none-reported t.faults (reported_procedures t.known rest).faults h in
         known_then (procedure_with wanted w d) (further w t.known) (λ v. procedures_with wanted v rest) (procedure_nothing w d a.0) ∙ procedures_nothing (further w t.known) rest a.1
 
     procedure_nothing : (w : Walked) (d : Tree ℕ (item procedure)) → (reported_procedure w.so_far d).faults ≡ [] → procedure_with wanted w d ≡ right (further w (reported_procedure w.so_far d).known)
     procedure_nothing w (declares_procedure x fs b closing) h =
         let t = reported_sections (record { formals = []; following = w.so_far }) (formal_sections fs) in
         let q : SoFar = heading_known w.so_far x fs in
-        let a = none_both t.faults (reported_block q b).faults h in
+        let a = none-reported t.faults (reported_block q b).faults h in
         nothing_then t (λ g. block_with wanted closing (further w (after_heading x g)) b) (further w (reported_block q b).known) a.0 (block_nothing closing (further w q) b a.1)
 
 -- ---- if only one body has faults, this body and others report the same as all
@@ -118,10 +118,10 @@ procedures_none p cs ts vs ps a h =
     let t₃ : Reported SoFar = reported_variables t₂.known (section_variables vs) in
     let t₄ : Reported SoFar = reported_procedures t₃.known ps in
     let t₅ : Reported SoFar = reported_body t₄.known a in
-    let a₁ = none_both t₁.faults (t₂.faults ++ (t₃.faults ++ (t₄.faults ++ t₅.faults))) h in
-    let a₂ = none_both t₂.faults (t₃.faults ++ (t₄.faults ++ t₅.faults)) a₁.1 in
-    let a₃ = none_both t₃.faults (t₄.faults ++ t₅.faults) a₂.1 in
-    none_both t₄.faults t₅.faults a₃.1
+    let a₁ = none-reported t₁.faults (t₂.faults ++ (t₃.faults ++ (t₄.faults ++ t₅.faults))) h in
+    let a₂ = none-reported t₂.faults (t₃.faults ++ (t₄.faults ++ t₅.faults)) a₁.1 in
+    let a₃ = none-reported t₃.faults (t₄.faults ++ t₅.faults) a₂.1 in
+    none-reported t₄.faults t₅.faults a₃.1
 
 -- The state after all procedures is the same if the statements of one body are left out.
 known_after : (k : ℕ) (way : Way) (w : Walked) (ps : Tree ℕ (items procedure)) → (reported_procedures w.so_far (procedures_without k way ps)).known ≡ (procedures_with every w ps).known.so_far
@@ -168,14 +168,14 @@ module _ (wanted : ℕ → Bool) where
     procedures_but k way own w end h e = refl
     procedures_but zero way own w (more d rest) h e =
         let t : Reported SoFar = reported_procedure w.so_far (procedure_without way d) in
-        let a = none_both t.faults (reported_procedures t.known rest).faults h in
+        let a = none-reported t.faults (reported_procedures t.known rest).faults h in
         let all : Reported Walked = procedure_with every w d in
         let known : t.known ≡ all.known.so_far = procedure_known way w.so_far d ∙ sym (ap (λ (t : Reported SoFar). t.known) (procedure_forgets w d)) in
         ap (λ v. v >>= (λ u. procedures_with wanted u rest)) (procedure_but way w d a.0 e)
         ∙ same_then all (λ u. procedures_with wanted u rest) (λ u. procedures_with every u rest) (procedures_all all.known rest (subst (λ q. (reported_procedures q rest).faults ≡ []) known a.1))
     procedures_but (suc k) way own w (more d rest) h e =
         let t : Reported SoFar = reported_procedure w.so_far d in
-        let a = none_both t.faults (reported_procedures t.known (procedures_without k way rest)).faults h in
+        let a = none-reported t.faults (reported_procedures t.known (procedures_without k way rest)).faults h in
         known_then (procedure_with wanted w d) (further w t.known) (λ u. procedures_with wanted u rest) (procedure_nothing wanted w d a.0)
         ∙ (procedures_but k way own (further w t.known) rest a.1 e
         ∙ sym (known_then (procedure_with every w d) (further w t.known) (λ u. procedures_with every u rest) (procedure_nothing every w d a.0)))
@@ -184,7 +184,7 @@ module _ (wanted : ℕ → Bool) where
     procedure_but way w (declares_procedure x fs b closing) h e =
         let t = reported_sections (record { formals = []; following = w.so_far }) (formal_sections fs) in
         let q : SoFar = heading_known w.so_far x fs in
-        let a = none_both t.faults (reported_block q (block_without way b)).faults h in
+        let a = none-reported t.faults (reported_block q (block_without way b)).faults h in
         same_then t (λ g. block_with wanted closing (further w (after_heading x g)) b) (λ g. block_with every closing (further w (after_heading x g)) b) (block_but way closing (further w q) b a.1 e)
 
 -- A closing name is in the list that contains only this closing name.

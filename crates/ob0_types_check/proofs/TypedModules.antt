@@ -1,5 +1,6 @@
 -- No fault is reported for well-typed blocks, procedures and modules.
 use Rattle.std.proofs.Common.{◌≡◌, ℕ, suc, ◌+◌, Bool, true, ◌&&◌, List, [], ◌∷◌, ◌++◌, Option, Some, option_and_then, refl, sym, ap, ◌∙◌, subst, le_refl, arith}
+use Rattle.std.proofs.lemmas.Bool.{and_parts}
 use Rattle.ob0_tree.specs.Parsed.{tree_of}
 use Rattle.ob0_tree.specs.Places.{named, text_at, value_at}
 use Rattle.ob0_tree.specs.Tree.{Tree, block, body, declares, declares_procedure, end, has_body, item, items, maybe, more, procedure}
@@ -9,6 +10,7 @@ use Rattle.ob0_language_names.specs.Scopes.{Scope, after_names, after_procedure,
 use Rattle.ob0_language_types.specs.Declarations.{after_types, after_variables, declare_constants, declare_first, declare_types, formals_constructors, procedure_constructors, types_constructors}
 use Rattle.ob0_language_types.specs.Environments.{outermost}
 use Rattle.ob0_language_types.specs.WellTyped.{TypeEnvironment, TypedParameter, bind_typed, block_fits, declare_typed, fits_over, heading, some_and, procedure_fits, procedures_fit, typed_parameters}
+use Rattle.ob0_language_types.proofs.Conditions.{hold-true}
 use Rattle.ob0_language_values.specs.Values.{Shape}
 use Rattle.ob0_types_check.specs.DeclarationFaults.{reported_constants, reported_module, reported_block, reported_body, reported_procedure, reported_procedures, reported_sections, reported_types, reported_variables}
 use Rattle.ob0_types_check.specs.Known.{Reported}
@@ -16,11 +18,10 @@ use Rattle.ob0_types_check.specs.SoFar.{SoFar, at_first}
 use Rattle.ob0_types_check.specs.WellTypedLaws.{NoFaultInModules}
 use Rattle.ob0_types_check.proofs.BlocksDeclared.{constants_declare, next_le, types_declare}
 use Rattle.ob0_types_check.proofs.BlocksFit.{declarations_reported, first_holds, heading_known, heading_reported, procedure_reported}
-use Rattle.ob0_types_check.proofs.BoundModules.{held, names_bound-holds}
+use Rattle.ob0_types_check.proofs.BoundModules.{names_bound-holds}
 use Rattle.ob0_types_check.proofs.DeclaredModules.{module_placed, numbering_of}
 use Rattle.ob0_types_check.proofs.DeclaredNames.{BlockPlaced, Numbering, ProcedurePlaced, ProceduresPlaced, following_constants, following_procedure, following_types, following_variables, constants-mapped, formals-mapped, scope_following, types-mapped, variables-mapped}
 use Rattle.ob0_types_check.proofs.DeclaredKnown.{IsKnownAt, later_same, holds_later}
-use Rattle.ob0_types_check.proofs.EqualShapes.{each-true}
 use Rattle.ob0_types_check.proofs.MadeOnce.{Fresh, fresh_after, fresh_first}
 use Rattle.ob0_types_check.proofs.PartsFitting.{PartsFit, parts_fit}
 use Rattle.ob0_types_check.proofs.TypedDeclarations.{body_right, constants_right, sections_right, types_right, variables_right}
@@ -50,7 +51,7 @@ module _ (w : Numbering) (fit : PartsFit) (fine : PartsRight) where
         let variables : TypeEnvironment Name → Option (TypeEnvironment Name) = declare_typed as_names (after_types k nb) (section_variables (named w.source vs)) in
         let types : TypeEnvironment Name → Option (TypeEnvironment Name) = λ e. declare_types as_names e k (section_types (named w.source ts)) in
         let test : TypeEnvironment Name → Bool = λ inner. procedures_fit as_names inner (after_variables k nb) (named w.source statements) (named w.source ps) in
-        let (inner, whole, fitting) = held (option_and_then variables (declare_first as_names env k nb)) test h in
+        let (inner, whole, fitting) = hold-true (option_and_then variables (declare_first as_names env k nb)) test h in
         let (first, hf, hv) = and-then variables (declare_first as_names env k nb) inner whole in
         let (constant, hc, ht) = and-then types (declare_constants as_names env (section_constants (named w.source cs))) first hf in
         let none₁ = constants_right w fit fine (section_constants cs) n p before scope env st placed.0 constant (sym (ap (declare_constants as_names env) (constants-mapped text value cs)) ∙ hc) in
@@ -80,10 +81,10 @@ module _ (w : Numbering) (fit : PartsFit) (fine : PartsRight) where
         let own : List (TypedParameter Name) → Bool = λ ps. procedure_fits as_names (bind_typed ps (heading (procedure_name nd) ps env)) k nd in
         let others : List (TypedParameter Name) → Bool = λ ps. procedures_fit as_names (heading (procedure_name nd) ps env) (k + procedure_constructors nd) (named w.source statements) (named w.source rest) in
         let given : Option (List (TypedParameter Name)) = typed_parameters as_names env k (procedure_formals nd) in
-        let (ps, hp, fitting) = held given (λ ps. own ps && others ps) h in
-        let none = procedure_right d k n p before scope env st fresh placed.0 ps hp (each-true (own ps) (others ps) fitting).0 in
+        let (ps, hp, fitting) = hold-true given (λ ps. own ps && others ps) h in
+        let none = procedure_right d k n p before scope env st fresh placed.0 ps hp (and_parts (own ps) (others ps) fitting).0 in
         let f = procedure_reported w fit d k n p before scope env fresh.counted st placed.0 none in
-        let both = each-true (own f.parameters) (others f.parameters) (held-again given (λ ps. own ps && others ps) f.parameters f.typed h) in
+        let both = and_parts (own f.parameters) (others f.parameters) (held-again given (λ ps. own ps && others ps) f.parameters f.typed h) in
         let last = procedures_right rest statements (k + procedure_constructors nd) (after_procedure (suc n) d) q f.after (following_procedure w scope n d) (heading (procedure_name nd) f.parameters env) f.holds
         (fresh_after k (k + procedure_constructors nd) before f.after f.apart fresh) placed.1 both.1 in
         (none-of-both (reported_procedure p d).faults (reported_procedures q rest).faults none last.0, last.1)

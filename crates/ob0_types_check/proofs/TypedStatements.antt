@@ -1,5 +1,6 @@
 -- No fault is reported for well-typed statements.
 use Rattle.std.proofs.Common.{◌≡◌, ℕ, Bool, true, false, true≢false, not, suc, List, [], ◌∷◌, ◌++◌, length, map, slice_get, Option, Some, None, option_and_then, if◌then◌else◌, refl, sym, ap, ◌∙◌, eq-eqb}
+use Rattle.std.proofs.lemmas.Bool.{and_parts}
 use Rattle.ob0_scan.specs.declared.fault.Code.TheVariants as code
 use Rattle.ob0_types_table.specs.Tables.{mode_of}
 use Rattle.ob0_types_table.specs.declared.types.TypeId.{TypeId}
@@ -13,6 +14,7 @@ use Rattle.ob0_language_types.specs.Expressions as meant
 use Rattle.ob0_language_types.specs.Expressions.{Object}
 use Rattle.ob0_language_types.specs.Typing.{lone_designator, object_type, type_at, type_of, type_of_factor}
 use Rattle.ob0_language_types.specs.WellTyped.{Formal, Signature, Typed, agree, argument_fits, arguments_fit, by_place, by_value, call_fits, condition_fits, else_fits, elsifs_fit, sequence_fits, signature_of, statement_fits, statements_fit, variable_type}
+use Rattle.ob0_language_types.proofs.Conditions.{agree-true}
 use Rattle.ob0_language_values.specs.Values.{Shape, array_shape, boolean_shape, integer_shape, record_shape}
 use Rattle.ob0_types_check.specs.ExpressionFaults.{reported_expression}
 use Rattle.ob0_types_check.specs.Known.{Facts, Meaning, Operand, a_constant, a_procedure, a_type, a_variable}
@@ -22,7 +24,6 @@ use Rattle.ob0_types_check.specs.SoFar.{MadeType, facts_at, types_at}
 use Rattle.ob0_types_check.specs.StatementFaults.{call_by_meaning, passed, reported_argument, reported_arguments, reported_required, reported_assignment, reported_call, reported_condition, reported_else, reported_elsifs, reported_sequence, reported_statement, reported_statements, reported_target}
 use Rattle.ob0_types_check.specs.Agreement.{FormalsAgree, MeansAlike, TokensAgree, TypesAgree, as_array, as_record, shape_in}
 use Rattle.ob0_types_check.specs.WellTypedLaws.{EachOnce, constructor_of, NoFaultInStatements}
-use Rattle.ob0_types_check.proofs.EqualShapes.{agree-equal, each-true}
 use Rattle.ob0_types_check.proofs.FittingExpressions.{parts-placed}
 use Rattle.ob0_types_check.proofs.FittingStatements.{EachAgreed, arguments-agreed, arguments-mapped, split}
 use Rattle.ob0_types_check.proofs.TypedNames.{types-apart}
@@ -53,13 +54,13 @@ module _ {T N : Type 0} (facts : Facts T) (shape : T → Option Shape) (types : 
   condition-right : (e : Tree ℕ expression) → Named e → condition_fits meaning (here e) ≡ true → reported_condition facts e ≡ []
   unfolding condition_fits
   condition-right e k h =
-      let (s, truth, typed) = agree-equal (Some boolean_shape) (type_of meaning (here e)) h in
+      let (s, truth, typed) = agree-true (Some boolean_shape) (type_of meaning (here e)) h in
       required-typed facts.types.boolean boolean_shape e types.boolean k (typed ∙ sym truth)
 
   assignment-right : (x : ℕ) (path : Tree ℕ (items selector)) (e : Tree ℕ expression) → Named (assigns x path e) → statement_fits meaning (here (assigns x path e)) ≡ true → reported_assignment facts (reported_target facts x path) e ≡ []
   unfolding statement_fits
   assignment-right x path e k h =
-      let (s, left, right) = agree-equal (variable_type meaning (Some (label x, here path))) (type_of meaning (here e)) h in
+      let (s, left, right) = agree-true (variable_type meaning (Some (label x, here path))) (type_of meaning (here e)) h in
       let rest = apart-in (ids path) (ids e) k.1 in
       let t = target-typed facts shape types apart only label meaning x path s (k.0, rest.0) left in
       none-of-both (reported_target facts x path).faults (reported_required facts (reported_target facts x path).known.of e) t.none (required-typed (reported_target facts x path).known.of s e t.known rest.1 right)
@@ -108,14 +109,14 @@ module _ {T N : Type 0} (facts : Facts T) (shape : T → Option Shape) (types : 
   unfolding argument_fits
   passed-right true of g e mode wanted k h =
       let o : Operand T = (reported_expression facts e).known in
-      let (s, own, given) = agree-equal (Some g.shape) (variable_type meaning (lone_designator (here e))) (sym (λ i. agree (Some g.shape) (elim (mode i) [ by_value ↦ type_of meaning (here e) | by_place ↦ variable_type meaning (lone_designator (here e)) ])) ∙ h) in
+      let (s, own, given) = agree-true (Some g.shape) (variable_type meaning (lone_designator (here e))) (sym (λ i. agree (Some g.shape) (elim (mode i) [ by_value ↦ type_of meaning (here e) | by_place ↦ variable_type meaning (lone_designator (here e)) ])) ∙ h) in
       let p : IsPlace e g.shape = place-known e k g.shape (given ∙ sym own) in
       none-of-both (reported_expression facts e).faults _ (expression-typed facts shape types apart only label meaning e k g.shape p.typed)
       (ap (λ b. (if not b then record { known = facts.types.unknown; faults = at_operand facts code.NotVariable o } else required facts of o).faults) p.placed
       ∙ required-right facts shape types apart of o (alike o.of of g.shape (operand-typed facts shape types apart only label meaning e k g.shape p.typed) wanted))
   passed-right false of g e mode wanted k h =
       let o : Operand T = (reported_expression facts e).known in
-      let (s, own, given) = agree-equal (Some g.shape) (type_of meaning (here e)) (sym (λ i. agree (Some g.shape) (elim (mode i) [ by_value ↦ type_of meaning (here e) | by_place ↦ variable_type meaning (lone_designator (here e)) ])) ∙ h) in
+      let (s, own, given) = agree-true (Some g.shape) (type_of meaning (here e)) (sym (λ i. agree (Some g.shape) (elim (mode i) [ by_value ↦ type_of meaning (here e) | by_place ↦ variable_type meaning (lone_designator (here e)) ])) ∙ h) in
       let typed : type_of meaning (here e) ≡ Some g.shape = given ∙ sym own in
       none-of-both (reported_expression facts e).faults _ (expression-typed facts shape types apart only label meaning e k g.shape typed)
       (required-right facts shape types apart of o (alike o.of of g.shape (operand-typed facts shape types apart only label meaning e k g.shape typed) wanted))
@@ -133,7 +134,7 @@ module _ {T N : Type 0} (facts : Facts T) (shape : T → Option Shape) (types : 
   arguments-right (f ∷ fs) [] es a k h = absurd a
   arguments-right (f ∷ fs) (g ∷ gs) [] a k h = absurd (true≢false (sym h))
   arguments-right (f ∷ fs) (g ∷ gs) (e ∷ es) a k h =
-      let parts = each-true (argument_fits meaning g (here e)) (arguments_fit meaning gs (map here es)) h in
+      let parts = and_parts (argument_fits meaning g (here e)) (arguments_fit meaning gs (map here es)) h in
       let rest = arguments-right fs gs es a.2 k.1 parts.1 in
       (λ i. suc (rest.0 i), none-of-both (reported_argument facts f e) (reported_arguments facts fs es) (argument-right f g e a.0 a.1 k.0 parts.0) rest.1)
 
@@ -168,32 +169,32 @@ module _ {T N : Type 0} (facts : Facts T) (shape : T → Option Shape) (types : 
         let tokens = apart-in (ids e) _ k in
         let others = apart-in (ids statements) _ tokens.1 in
         let ends = apart-in (ids rest) (ids last) others.1 in
-        let first = each-true (condition_fits meaning (here e)) _ h in
-        let second = each-true (sequence_fits meaning (here statements)) _ first.1 in
-        let third = each-true (elsifs_fit meaning (here rest)) _ second.1 in
+        let first = and_parts (condition_fits meaning (here e)) _ h in
+        let second = and_parts (sequence_fits meaning (here statements)) _ first.1 in
+        let third = and_parts (elsifs_fit meaning (here rest)) _ second.1 in
         none-of-both (reported_condition facts e) _ (condition-right e tokens.0 first.0)
         (none-of-both (reported_sequence facts statements) _ (sequence-right statements others.0 second.0)
         (none-of-both (reported_elsifs facts rest) _ (elsifs-right rest ends.0 third.0) (else-right last ends.1 third.1)))
     statement-right (while_loop e statements) k h =
         let tokens = apart-in (ids e) (ids statements) k in
-        let parts = each-true (condition_fits meaning (here e)) _ h in
+        let parts = and_parts (condition_fits meaning (here e)) _ h in
         none-of-both (reported_condition facts e) _ (condition-right e tokens.0 parts.0) (sequence-right statements tokens.1 parts.1)
     statement-right (repeat_loop statements e) k h =
         let tokens = apart-in (ids statements) (ids e) k in
-        let parts = each-true (sequence_fits meaning (here statements)) _ h in
+        let parts = and_parts (sequence_fits meaning (here statements)) _ h in
         none-of-both (reported_sequence facts statements) _ (sequence-right statements tokens.0 parts.0) (condition-right e tokens.1 parts.1)
 
     pub sequence-right : (a : Tree ℕ sequence) → Named a → sequence_fits meaning (here a) ≡ true → reported_sequence facts a ≡ []
     sequence-right (runs a rest) k h =
         let tokens = apart-in (ids a) (ids rest) k in
-        let parts = each-true (statement_fits meaning (here a)) _ h in
+        let parts = and_parts (statement_fits meaning (here a)) _ h in
         none-of-both (reported_statement facts a) _ (statement-right a tokens.0 parts.0) (statements-right rest tokens.1 parts.1)
 
     statements-right : (a : Tree ℕ (items further_statement)) → Named a → statements_fit meaning (here a) ≡ true → reported_statements facts a ≡ []
     statements-right end k h = refl
     statements-right (more (then_statement a) rest) k h =
         let tokens = apart-in (ids a) (ids rest) k in
-        let parts = each-true (statement_fits meaning (here a)) _ h in
+        let parts = and_parts (statement_fits meaning (here a)) _ h in
         none-of-both (reported_statement facts a) _ (statement-right a tokens.0 parts.0) (statements-right rest tokens.1 parts.1)
 
     elsifs-right : (a : Tree ℕ (items elsif_part)) → Named a → elsifs_fit meaning (here a) ≡ true → reported_elsifs facts a ≡ []
@@ -201,8 +202,8 @@ module _ {T N : Type 0} (facts : Facts T) (shape : T → Option Shape) (types : 
     elsifs-right (more (elsif_branch e statements) rest) k h =
         let tokens = apart-in (ids (elsif_branch e statements)) (ids rest) k in
         let inner = apart-in (ids e) (ids statements) tokens.0 in
-        let first = each-true (condition_fits meaning (here e)) _ h in
-        let second = each-true (sequence_fits meaning (here statements)) _ first.1 in
+        let first = and_parts (condition_fits meaning (here e)) _ h in
+        let second = and_parts (sequence_fits meaning (here statements)) _ first.1 in
         none-of-both (reported_condition facts e) _ (condition-right e inner.0 first.0) (none-of-both (reported_sequence facts statements) _ (sequence-right statements inner.1 second.0) (elsifs-right rest tokens.1 second.1))
 
     else-right : (a : Tree ℕ (maybe else_part)) → Named a → else_fits meaning (here a) ≡ true → reported_else facts a ≡ []

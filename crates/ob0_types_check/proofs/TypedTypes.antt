@@ -24,12 +24,12 @@ use Rattle.ob0_types_check.specs.WellTypedLaws.{NoFaultInConstants, NoFaultInLen
 use Rattle.ob0_types_check.proofs.DeclaredNames.{AreSeen, IsSeen, Numbering, each_part}
 use Rattle.ob0_types_check.proofs.DeclaredShapes.{GatheredAgrees, SizeAgrees, array_sized, followed, record_sized, size_agrees}
 use Rattle.ob0_types_check.proofs.DeclaredKnown.{IsKnownAt, agrees_where_seen, seen_holds, holds_later}
-use Rattle.ob0_types_check.proofs.DeclaredTypes.{array_given, both_gather, group_gathers, grouped, groups_gather, none_both, nothing_agrees, of_limits, type_denotes}
+use Rattle.ob0_types_check.proofs.DeclaredTypes.{array_given, both_gather, group_gathers, grouped, groups_gather, nothing_agrees, of_limits, type_denotes}
 use Rattle.ob0_types_check.proofs.PartsFitting.{PartsFit}
 use Rattle.ob0_types_check.proofs.TypedConstants.{no_fault_in_constants-holds, no_fault_in_lengths-holds}
 use Rattle.ob0_types_check.proofs.TypedOperands.{and-then, none-of-both}
 use Rattle.ob0_types_check.proofs.TypedStatements.{no_fault_in_statements-holds}
-use Rattle.ob0_types_check.proofs.Unreported.{some-none}
+use Rattle.ob0_types_check.proofs.Unreported.{some-none, none-reported}
 
 -- The laws about expressions and statements that the proofs about declarations use: no fault is reported for them if
 -- they are well-typed.
@@ -105,7 +105,7 @@ module _ (w : Numbering) (fit : PartsFit) (fine : PartsRight) (n : ℕ) (scope :
         some-there (option_and_then array_length (constant_value here (mapped (text_at w.source) (value_at p.source) e))) c
         (ap (λ z. option_and_then array_length (constant_value here (mapped (text_at w.source) (value_at z) e))) st.source ∙ (ap (option_and_then array_length) hv ∙ hc)) in
         let none = fine.lengths p before (text_at w.source) here e agrees there in
-        let a = none_both (reported_expression (facts_at p true) e).faults l.faults none in
+        let a = none-reported (reported_expression (facts_at p true) e).faults l.faults none in
         let long = fit.lengths p before (text_at w.source) here e agrees none in
         let known : value ≡ Some long.value = ap (λ z. constant_value here (mapped (text_at w.source) (value_at z) e)) (sym st.source) ∙ long.given in
         let limited : of_limits k long.length given ≡ Some s = sym (array_given k value long.value long.length given known long.counted) ∙ h in

@@ -1,6 +1,6 @@
 -- If no fault is reported for a whole, no fault is reported for its parts. If a definition decides by a condition, the
 -- lemma is about any Bool instead of the condition (`first-reported`, `second-reported`).
-use Rattle.std.proofs.Common.{◌≡◌, Bool, true, false, ◌||◌, ◌&&◌, List, [], ◌∷◌, ◌++◌, if◌then◌else◌, Option, Some, None, option_and_then, refl, ap, ◌∙◌}
+use Rattle.std.proofs.Common.{◌≡◌, Bool, true, false, ◌||◌, List, [], ◌∷◌, ◌++◌, if◌then◌else◌, Option, Some, None, option_and_then, refl, ap, ◌∙◌}
 use Rattle.ob0_scan.specs.declared.fault.Fault.{Fault}
 use Rattle.ob0_types_check.specs.Known.{Reported}
 
@@ -48,6 +48,3 @@ then-assoc f g (Some x) = refl
 pub then-itself : {A : Type 0} (o : Option A) → o ≡ option_and_then (λ x. Some x) o
 then-itself None = refl
 then-itself (Some x) = refl
-
-pub both-true : (a b : Bool) → a ≡ true → b ≡ true → (a && b) ≡ true
-both-true a b p q = ap (λ x. x && b) p ∙ q

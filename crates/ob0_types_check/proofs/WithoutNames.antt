@@ -34,7 +34,7 @@ mutual
   after_procedure-without : {N : Type 0} (way : Way) (k : ℕ) (p : Tree N (item procedure)) → after_procedure k (procedure_without way p) ≡ after_procedure k p
   after_procedure-without way k (declares_procedure x fs b closing) = after_block-without way (after_names k (formal_names (formal_sections fs))) b
 
-procedure_name-without : {N : Type 0} (way : Way) (p : Tree N (item procedure)) → procedure_name (procedure_without way p) ≡ procedure_name p
+pub procedure_name-without : {N : Type 0} (way : Way) (p : Tree N (item procedure)) → procedure_name (procedure_without way p) ≡ procedure_name p
 procedure_name-without way (declares_procedure x fs b closing) = refl
 
 declared-without : {N : Type 0} (j : ℕ) (way : Way) (k : ℕ) (ps : Tree N (items procedure)) (scope : Scope N) → declare_procedure_names k (procedures_without j way ps) scope ≡ declare_procedure_names k ps scope

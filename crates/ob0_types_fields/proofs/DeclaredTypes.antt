@@ -11,7 +11,7 @@ use Rattle.ob0_language_names.specs.Scopes.{as_label}
 use Rattle.ob0_language_types.specs.Bindings.{block_bindings, declared_object, module_bindings, procedures_bindings, since}
 use Rattle.ob0_language_types.specs.Declaring.{declare_block}
 use Rattle.ob0_scope_table.specs.InLabels.{in_labels, label_in}
-use Rattle.ob0_language_types.proofs.Bound.{since-append}
+use Rattle.ob0_language_types.proofs.Bound.{since-append, bind_typed-append}
 use Rattle.ob0_language_types.specs.Declarations.{after_types, after_variables, declare_constants, declare_first, declare_types, formals_constructors, procedure_constructors}
 use Rattle.ob0_language_types.specs.Environments.{meanings, outermost}
 use Rattle.ob0_language_types.specs.Expressions.{Meanings, Object, a_constant, a_type, a_variable}
@@ -20,8 +20,9 @@ use Rattle.ob0_language_types.specs.WellTyped.{Formal, Mode, Signature, TypeEnvi
 use Rattle.ob0_language_types.proofs.Literals.{some_inverse}
 use Rattle.ob0_language_types.proofs.Proved.{fits_by_ordinal-holds}
 use Rattle.ob0_language_types.proofs.TypedElsewhere.{then_some}
+use Rattle.ob0_language_types.proofs.ConstantsDeclared.{block-listed, block-parts}
 use Rattle.ob0_types_fields.proofs.DeclaredInOrder.{Right, at_label, right_split}
-use Rattle.ob0_types_fields.proofs.OwnedModules.{bind_typed-append, bindings_right, block-listed, block-parts, procedure-parts}
+use Rattle.ob0_types_fields.proofs.OwnedModules.{bindings_right, procedure-parts}
 use Rattle.ob0_types_fields.specs.FieldTypes.{first_listed}
 use Rattle.ob0_types_fields.specs.Owned.{token_objects}
 use Rattle.ob0_language_values.specs.Values.{Shape}

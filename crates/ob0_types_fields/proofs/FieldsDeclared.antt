@@ -5,18 +5,18 @@ use Rattle.std.proofs.lemmas.List.Elements.{All-cons, All-nil}
 use Rattle.std.proofs.lemmas.Slice.Eq.{bytes_eq-Decides}
 use Rattle.std.specs.List.{list_any}
 use Rattle.std.proofs.lemmas.Bool.{or_parts, or_right}
+use Rattle.std.proofs.Math.Bool.{and-false}
 use Rattle.ob0_scan.specs.Scanned.{Scanned}
 use Rattle.ob0_tree.specs.declared.tree.Role.TheVariants as role
-use Rattle.ob0_tree.specs.Lexeme.{EndOfText, Terminal, Mark, Name, Number, relabelled}
+use Rattle.ob0_tree.specs.Lexeme.{Name}
 use Rattle.ob0_tree.specs.Order.{leaves}
 use Rattle.ob0_tree.specs.Parsed.{Parsed, named_tree_of, tree_of}
 use Rattle.ob0_tree.specs.Places.{text_at, value_at}
-use Rattle.ob0_tree.specs.Tree.{Sort, Tree, mapped, spell}
-use Rattle.ob0_tree.proofs.Leaves.{leaves_spelled, lexeme_names}
-use Rattle.ob0_tree.proofs.Mapped.{spell_mapped}
+use Rattle.ob0_tree.specs.Tree.{mapped}
 use Rattle.ob0_tree.proofs.MappedIdentifiers.{leaves_mapped}
 use Rattle.ob0_language_names.specs.Names as written
 use Rattle.ob0_language_names.specs.Names.{same_name}
+use Rattle.ob0_language_names.proofs.Peeling.{heads}
 use Rattle.ob0_scope_table.specs.Resolution.{IsResolution, Resolution}
 use Rattle.ob0_language_types.specs.Bindings.{declared_object}
 use Rattle.ob0_language_types.specs.WellTyped.{WellTyped}
@@ -28,7 +28,7 @@ use Rattle.ob0_language_fields.proofs.Bare.{bare}
 use Rattle.ob0_types_fields.specs.declared.field_name.FieldName.{FieldName}
 use Rattle.ob0_types_fields.specs.Identifiers.{FieldsDeclared, declaring_field, field_identifiers, field_tokens, is_field, tokens_among}
 use Rattle.ob0_types_fields.specs.Owned.{fields_among, owned_tokens, token_objects}
-use Rattle.ob0_types_fields.proofs.DuplicateFields.{and-false, duplicate_by_token-holds}
+use Rattle.ob0_types_fields.proofs.DuplicateFields.{duplicate_by_token-holds}
 use Rattle.ob0_types_fields.proofs.FieldTokens.{renamed_at_tokens-holds}
 use Rattle.ob0_types_fields.proofs.OwnedTokens.{module-tokens, tokens}
 
@@ -76,19 +76,13 @@ module _ (k : ℕ) (f : written.Name) where
 
 -- ---- the identifiers of a tree whose names are rewritten
 
-first_is : {A : Type 0} {x y : A} {xs ys : List A} → x ∷ xs ≡ y ∷ ys → x ≡ y
-first_is h = cc
-
-others_are : {A : Type 0} {x y : A} {xs ys : List A} → x ∷ xs ≡ y ∷ ys → xs ≡ ys
-others_are h = cc
-
 -- If two rewritings agree on a list of identifiers, they agree at each identifier of the list.
 same_at : (g h : ℕ → written.Name) (i : ℕ) (xs : List ℕ) → map g xs ≡ map h xs → list_any (λ x. i == x) xs ≡ true → g i ≡ h i
 same_at g h i [] e among = absurd (true≢false (sym among))
-same_at g h i (x ∷ xs) e among = one (i == x) refl among (same_at g h i xs (others_are e))
+same_at g h i (x ∷ xs) e among = one (i == x) refl among (same_at g h i xs (heads e).1)
   where
     one : (b : Bool) → (i == x) ≡ b → (b || list_any (λ y. i == y) xs) ≡ true → (list_any (λ y. i == y) xs ≡ true → g i ≡ h i) → g i ≡ h i
-    one true at any later = let same : i ≡ x = eqb-true i x at in ap g same ∙ (first_is e ∙ ap h (sym same))
+    one true at any later = let same : i ≡ x = eqb-true i x at in ap g same ∙ ((heads e).0 ∙ ap h (sym same))
     one false at any later = later any
 
 -- ---- the identifiers of fields among all

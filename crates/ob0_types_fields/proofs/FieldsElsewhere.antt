@@ -3,6 +3,7 @@
 use Rattle.std.proofs.Common.{◌≡◌, ℕ, suc, ◌+◌, ◌-◌, ◌^◌, ◌<◌, ◌≤◌, min, true, false, nat_le, nat_lt, List, [], ◌∷◌, ◌++◌, map, length, Some, None, Option, unwrap_or, refl, ap, ◌∙◌, sym, subst, arith}
 use Rattle.std.proofs.Math.Nat.{min-eq_left}
 use Rattle.std.proofs.lemmas.List.{map-append}
+use Rattle.std.proofs.lemmas.Bool.{lt-leb, le-leb, le-ltb, lt-ltb}
 use Rattle.std.specs.List.{AllByRecursion}
 use Rattle.ob0_scan.specs.declared.tokens.SameTokens.{SameTokens}
 use Rattle.ob0_tree.specs.declared.tree.Role.TheVariants as role
@@ -13,6 +14,7 @@ use Rattle.ob0_tree.specs.Tree.{Tree, body, identifiers, mapped, maybe, module_t
 use Rattle.ob0_tree.proofs.Leaves.{leaves_ascend}
 use Rattle.ob0_language_names.specs.Names.{Name}
 use Rattle.ob0_language_names.specs.Parts.{module_block}
+use Rattle.ob0_language_names.proofs.Peeling.{heads}
 use Rattle.ob0_language_types.specs.Bindings.{declared_object}
 use Rattle.ob0_language_types.specs.Expressions.{Meanings}
 use Rattle.ob0_language_types.specs.WellTyped.{Signature, WellTyped}
@@ -25,7 +27,6 @@ use Rattle.ob0_scope_table.specs.Resolution.{IsResolution, Resolution, ordinal_i
 use Rattle.ob0_scope_table.proofs.BodyReplaced.{names_outside, without_mapped}
 use Rattle.ob0_scope_table.proofs.FewTokens.{few_tokens}
 use Rattle.ob0_scope_table.proofs.Moved.{moved_above, moved_below}
-use Rattle.ob0_scope_table.proofs.OneBody.{le_false, le_true, less_false, less_true}
 use Rattle.ob0_types_table.specs.KnownTables.{Tables, declared_in}
 use Rattle.ob0_types_fields.specs.declared.field_name.FieldName.{FieldName}
 use Rattle.ob0_types_fields.specs.Identifiers.{declared_fields, declared_in_block, field_identifiers}
@@ -62,12 +63,6 @@ of_made f P (x ∷ xs) h = (h.0, of_made f P xs h.1)
 
 -- ---- owners at the new indexes
 
-first_is : {A : Type 0} {x y : A} {xs ys : List A} → x ∷ xs ≡ y ∷ ys → x ≡ y
-first_is h = cc
-
-others_are : {A : Type 0} {x y : A} {xs ys : List A} → x ∷ xs ≡ y ∷ ys → xs ≡ ys
-others_are h = cc
-
 -- puts a field's owner before its name
 abbrev with_owner : ℕ → Name → Name
 with_owner k x = k ∷ x
@@ -79,7 +74,7 @@ same_owner : (o p : Option ℕ) (x y : Name) → x ≡ y → of_records with_own
 same_owner None None x y e h = refl
 same_owner None (Some k) x y e h = absurd (longer k y (sym e ∙ h))
 same_owner (Some j) None x y e h = absurd (longer j x (e ∙ sym h))
-same_owner (Some j) (Some k) x y e h = ap Some (first_is h)
+same_owner (Some j) (Some k) x y e h = ap Some (heads h).0
 
 -- If identifiers with their owners have the same spelling as before, their owners are the same.
 owners_kept : (at : ℕ → ℕ) (before now : ℕ → Option ℕ) (written writes : ℕ → Name) (xs : List ℕ)
@@ -87,7 +82,7 @@ owners_kept : (at : ℕ → ℕ) (before now : ℕ → Option ℕ) (written writ
     → map writes (map at xs) ≡ map written xs → AllByRecursion (λ i. now (at i) ≡ before i) xs
 owners_kept at before now written writes [] e h = tt
 owners_kept at before now written writes (x ∷ xs) e h =
-    (same_owner (now (at x)) (before x) (writes (at x)) (written x) (first_is h) (first_is e), owners_kept at before now written writes xs (others_are e) (others_are h))
+    (same_owner (now (at x)) (before x) (writes (at x)) (written x) (heads h).0 (heads e).0, owners_kept at before now written writes xs (heads e).1 (heads h).1)
 
 -- Two lists of identifiers with the same owners, one at the new indexes of the other, are the same list moved.
 placed_alike : (at : ℕ → ℕ) (before now : ℕ → Option ℕ) (xs ys : List (ℕ × Option ℕ)) → tokens xs ≡ map at (tokens ys) → HasOwners now xs → HasOwners before ys
@@ -96,9 +91,9 @@ placed_alike at before now [] [] e h g same = refl
 placed_alike at before now [] (y ∷ ys) e h g same = absurd (cc)
 placed_alike at before now (x ∷ xs) [] e h g same = absurd (cc)
 placed_alike at before now ((i, o) ∷ xs) ((j, p) ∷ ys) e h g same =
-    let here : i ≡ at j = first_is e in
+    let here : i ≡ at j = (heads e).0 in
     let owner : o ≡ p = sym h.0 ∙ (ap now here ∙ (same.0 ∙ g.0)) in
-    λ z. (here z, owner z) ∷ placed_alike at before now xs ys (others_are e) h.1 g.1 same.1 z
+    λ z. (here z, owner z) ∷ placed_alike at before now xs ys (heads e).1 h.1 g.1 same.1 z
 
 owners_joined : (table : ℕ → Option ℕ) (xs ys : List (ℕ × Option ℕ)) → HasOwners table xs → HasOwners table ys → HasOwners table (xs ++ ys)
 owners_joined table [] ys h g = g
@@ -253,9 +248,9 @@ module _ (old r : Resolution) (way : Way) (s : SameTokens) (is : IsBodyReplaced 
       let b = between_before in
       ap (fields_before is.first) all_before
       ∙ keeps_first (λ x. nat_lt x.token is.first) (fields_among around_before.before) (fields_among inner_before) (fields_among around_before.after)
-      (among_each (λ t. nat_lt t is.first ≡ true) around_before.before (weaker (λ x. x.0 < is.first) (λ x. nat_lt x.0 is.first ≡ true) (λ x h. less_true x.0 is.first h) around_before.before b.below))
-      (among_each (λ t. nat_lt t is.first ≡ false) inner_before (weaker (λ x. (is.first ≤ x.0) × (x.0 < closing_at way before)) (λ x. nat_lt x.0 is.first ≡ false) (λ x h. less_false x.0 is.first h.0) inner_before b.inside))
-      (among_each (λ t. nat_lt t is.first ≡ false) around_before.after (weaker (λ x. (closing_at way before + 1 ≤ x.0) × (x.0 < length old.module_read.source.tokens)) (λ x. nat_lt x.0 is.first ≡ false) (λ x h. less_false x.0 is.first (omega (arith, h.0, b.reaches))) around_before.after b.above))
+      (among_each (λ t. nat_lt t is.first ≡ true) around_before.before (weaker (λ x. x.0 < is.first) (λ x. nat_lt x.0 is.first ≡ true) (λ x h. lt-ltb x.0 is.first h) around_before.before b.below))
+      (among_each (λ t. nat_lt t is.first ≡ false) inner_before (weaker (λ x. (is.first ≤ x.0) × (x.0 < closing_at way before)) (λ x. nat_lt x.0 is.first ≡ false) (λ x h. le-ltb x.0 is.first h.0) inner_before b.inside))
+      (among_each (λ t. nat_lt t is.first ≡ false) around_before.after (weaker (λ x. (closing_at way before + 1 ≤ x.0) × (x.0 < length old.module_read.source.tokens)) (λ x. nat_lt x.0 is.first ≡ false) (λ x h. le-ltb x.0 is.first (omega (arith, h.0, b.reaches))) around_before.after b.above))
 
   kept_after : fields_from (closing_at way before) (field_identifiers old) ≡ fields_among around_before.after
   kept_after =
@@ -263,9 +258,9 @@ module _ (old r : Resolution) (way : Way) (s : SameTokens) (is : IsBodyReplaced 
       let c : ℕ = closing_at way before in
       ap (fields_from c) all_before
       ∙ keeps_last (λ x. nat_le c x.token) (fields_among around_before.before) (fields_among inner_before) (fields_among around_before.after)
-      (among_each (λ t. nat_le c t ≡ false) around_before.before (weaker (λ x. x.0 < is.first) (λ x. nat_le c x.0 ≡ false) (λ x h. le_false c x.0 (omega (arith, h, b.reaches))) around_before.before b.below))
-      (among_each (λ t. nat_le c t ≡ false) inner_before (weaker (λ x. (is.first ≤ x.0) × (x.0 < c)) (λ x. nat_le c x.0 ≡ false) (λ x h. le_false c x.0 h.1) inner_before b.inside))
-      (among_each (λ t. nat_le c t ≡ true) around_before.after (weaker (λ x. (c + 1 ≤ x.0) × (x.0 < length old.module_read.source.tokens)) (λ x. nat_le c x.0 ≡ true) (λ x h. le_true c x.0 (omega (arith, h.0))) around_before.after b.above))
+      (among_each (λ t. nat_le c t ≡ false) around_before.before (weaker (λ x. x.0 < is.first) (λ x. nat_le c x.0 ≡ false) (λ x h. lt-leb c x.0 (omega (arith, h, b.reaches))) around_before.before b.below))
+      (among_each (λ t. nat_le c t ≡ false) inner_before (weaker (λ x. (is.first ≤ x.0) × (x.0 < c)) (λ x. nat_le c x.0 ≡ false) (λ x h. lt-leb c x.0 h.1) inner_before b.inside))
+      (among_each (λ t. nat_le c t ≡ true) around_before.after (weaker (λ x. (c + 1 ≤ x.0) × (x.0 < length old.module_read.source.tokens)) (λ x. nat_le c x.0 ≡ true) (λ x h. le-leb c x.0 (omega (arith, h.0))) around_before.after b.above))
 
   -- The old index of the closing name follows from its new index.
   closing_before : place_before s (closing_at way now) ≡ closing_at way before

@@ -12,6 +12,7 @@ use Rattle.ob0_tree.specs.Tree.{Sort, Tree, addend, adds, arguments, array_type,
 use Rattle.ob0_language_names.specs.Mapping.{with_names}
 use Rattle.ob0_language_names.specs.Names.{Name, as_names}
 use Rattle.ob0_language_names.specs.Parts.{formal_sections, names_listed, procedure_formals, procedure_name, section_constants, section_names, section_type, section_types, section_variables}
+use Rattle.ob0_language_names.proofs.Peeling.{heads}
 use Rattle.ob0_scope_table.specs.Resolution.{ordinal_in}
 use Rattle.ob0_language_types.specs.Declarations.{after_formals, after_types, after_variables, declare_constants, declare_first, declare_types, procedure_constructors}
 use Rattle.ob0_language_types.specs.Environments.{meanings, outermost}
@@ -369,12 +370,6 @@ alike-records (t ∷ ts) = (alike-names t.ordinal t.declared, alike-records ts)
 longer : (f : List ℕ) → f ≡ 0 ∷ f → ⊥
 longer f h = let long : length f ≡ suc (length f) = ap length h in omega (arith, long)
 
-first_is : {A : Type 0} {x y : A} {xs ys : List A} → x ∷ xs ≡ y ∷ ys → x ≡ y
-first_is h = cc
-
-others_are : {A : Type 0} {x y : A} {xs ys : List A} → x ∷ xs ≡ y ∷ ys → xs ≡ ys
-others_are h = cc
-
 abbrev owner_writes : Scanned → (ℕ → Option ℕ) → ℕ → Name
 owner_writes source table i = of_records (λ k x. again x) (table i) (text_at source i)
 
@@ -405,11 +400,11 @@ listed_fields source table [] [] e has h = refl
 listed_fields source table [] (y ∷ ys) e has h = absurd (cc)
 listed_fields source table (x ∷ xs) [] e has h = absurd (cc)
 listed_fields source table ((i, o) ∷ xs) ((r, j) ∷ ys) e has h =
-    let same : i ≡ j = first_is e in
+    let same : i ≡ j = (heads e).0 in
     let owned : table j ≡ o = ap table (sym same) ∙ has.0 in
-    let written : mark r (text_at source j) ≡ owner_writes source table j = ap (λ z. z.1) (first_is h) in
+    let written : mark r (text_at source j) ≡ owner_writes source table j = ap (λ z. z.1) (heads h).0 in
     by_role r o same (matched (text_at source j) r o (written ∙ ap (λ o. of_records (λ k x. again x) o (text_at source j)) owned))
-    (listed_fields source table xs ys (others_are e) has.1 (others_are h))
+    (listed_fields source table xs ys (heads e).1 has.1 (heads h).1)
   where
     by_role : (r : Role) (o : Option ℕ) → i ≡ j → Matches r o → tokens_of (fields_among xs) ≡ written_fields ys → tokens_of (fields_among ((i, o) ∷ xs)) ≡ written_fields ((r, j) ∷ ys)
     by_role role.FieldName (Some k) same m later = λ z. same z ∷ later z

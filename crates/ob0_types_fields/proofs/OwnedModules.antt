@@ -5,8 +5,7 @@
 -- descending ordinals (`Descends`). It also gives the part with its fields rewritten, if each binding has the object of
 -- its ordinal (`Right`). In descending bindings each binding is found at its ordinal (`bound_right`), so the bindings
 -- of the whole module are `Right`. Splitting the lists gives the same for each part.
-use Rattle.std.proofs.Common.{◌≡◌, ℕ, suc, ◌+◌, Bool, true, false, ◌&&◌, if◌then◌else◌, List, [], ◌∷◌, ◌++◌, map, Some, None, Option, option_map, option_and_then, unwrap_or, refl, sym, ap, ◌∙◌, subst, arith, le_refl, le_of_lt, lit<, true≢false, append-nil}
-use Rattle.std.proofs.lemmas.Bool.{and_parts}
+use Rattle.std.proofs.Common.{◌≡◌, ℕ, suc, ◌+◌, true, false, List, [], ◌∷◌, ◌++◌, map, Some, None, Option, option_map, option_and_then, unwrap_or, refl, sym, ap, ◌∙◌, subst, arith, le_refl, le_of_lt, append-nil}
 use Rattle.ob0_tree.specs.Tree.{Tree, block, body, constants, declares, declares_procedure, end, formals, has_body, is_module, item, items, Item, mapped, maybe, more, occurrences, procedure, type_names, variables}
 use Rattle.ob0_tree.specs.Parsed.{Parsed, named_tree_of, tree_of}
 use Rattle.ob0_tree.specs.Places.{text_at, value_at}
@@ -14,26 +13,29 @@ use Rattle.ob0_language_names.specs.Names.{Label, Name, as_labels, as_names, dec
 use Rattle.ob0_language_names.specs.Occurrences.{label_ordinal}
 use Rattle.ob0_language_names.specs.Parts.{block_procedures, block_statements, block_variables, formal_names, formal_sections, module_block, procedure_block, section_types, section_variables}
 use Rattle.ob0_scope_table.specs.Resolution.{Resolution, ordinal_in}
+use Rattle.ob0_scope_table.proofs.Bound.{label_back}
 use Rattle.ob0_language_names.specs.Scopes.{Scope, after_block, after_names, after_procedure, after_procedures, as_label, declare_names, declare_procedure_names, first_procedure, first_type, first_variable, numbered, ordinal_of, procedures_scope, relabel_block, relabel_formals, relabel_procedures, relabel_sections, relabel_uses, types_scope, variables_scope, label_of}
 use Rattle.ob0_language_names.proofs.OccurrenceNames.{occurrences-with_names}
 use Rattle.ob0_language_names.proofs.OccurrencesMapped.{occurrences-mapped}
 use Rattle.ob0_language_names.proofs.Ordinals.{le-after_procedure}
 use Rattle.ob0_language_names.proofs.Peeling.{heads}
 use Rattle.ob0_language_names.proofs.Relabelled.{formals-section, types-section, variables-section}
-use Rattle.ob0_language_types.specs.Bindings.{block_bindings, declared_object, for_some, module_bindings, procedure_bindings, procedures_bindings, since}
-use Rattle.ob0_language_types.specs.Declaring.{declare_block, declare_procedure}
+use Rattle.ob0_language_types.specs.Bindings.{block_bindings, declared_object, module_bindings, procedures_bindings, since}
+use Rattle.ob0_language_types.specs.Declaring.{declare_block}
 use Rattle.ob0_language_types.specs.Declarations.{after_formals, after_types, after_variables, declare_first, formals_constructors, procedure_constructors, types_constructors, variables_constructors}
 use Rattle.ob0_language_types.specs.Environments.{from_binding, meanings, newest, outermost}
-use Rattle.ob0_language_types.specs.Expressions.{Meanings, Object, a_procedure, a_variable}
+use Rattle.ob0_language_types.specs.Expressions.{Meanings, Object, a_procedure}
 use Rattle.ob0_language_types.specs.Typing.{object_type}
-use Rattle.ob0_language_types.specs.WellTyped.{Signature, TypeEnvironment, Typed, TypedParameter, WellTyped, bind_typed, block_fits, body_fits, declare_typed, fits_over, heading, some_and, procedure_fits, procedures_fit, typed_parameters}
+use Rattle.ob0_language_types.specs.WellTyped.{Signature, TypeEnvironment, Typed, TypedParameter, WellTyped, bind_typed, block_fits, body_fits, declare_typed, fits_over, heading, procedures_fit, typed_parameters}
 use Rattle.ob0_language_values.specs.Values.{Shape}
 use Rattle.ob0_language_types.proofs.Agreeing.{Agree, HoldsOf}
 use Rattle.ob0_language_types.proofs.Constructors.{formals_constructors-relabel, procedure_constructors-relabel, types_constructors-relabel, variables_constructors-relabel}
-use Rattle.ob0_language_types.proofs.Bound.{headed_bindings, since-append}
+use Rattle.ob0_language_types.proofs.Bound.{since-append, bind_typed-append}
 use Rattle.ob0_language_types.proofs.Literals.{some_inverse}
 use Rattle.ob0_language_types.proofs.Proved.{fits_by_ordinal-holds}
 use Rattle.ob0_language_types.proofs.TypesByOrdinal.{TypeNoted, TypedBelow, TypedBelow-weaken, TypedWithin, bind_typed-by_name, bind_typed-by_ordinal, body_fits-agrees, declarations_typed, label_typed, label_typed-formals, noted_parameters, noted_parameters-within, parameters_typed, typed_by_name, typed_by_ordinal, typed_names, typed_outermost, typed_scope}
+use Rattle.ob0_language_types.proofs.ConstantsDeclared as blocks
+use Rattle.ob0_language_types.proofs.ConstantsDeclared.{block-listed, block-parts, predeclared-below}
 use Rattle.ob0_language_fields.specs.Fields.{types_after_heading, types_after_procedures, types_after_variables, parameters_of, refield, refield_block, refield_procedures, refield_variable_section}
 use Rattle.ob0_types_fields.specs.Owners.{of_records}
 use Rattle.ob0_types_fields.specs.Owned.{HasOwners, OwnersByDeclaration, owned, owned_block, owned_formals, owned_procedure, owned_procedures, owned_type_section, owned_variable_section, token_objects, unowned}
@@ -43,30 +45,12 @@ use Rattle.ob0_language_fields.proofs.NamesMeant.{object_in}
 use Rattle.ob0_types_fields.proofs.Selecting.{body-selects, here}
 use Rattle.ob0_types_fields.proofs.DeclaredInOrder.{Descends, Grown, Right, block_grows, bound_right, descends_join, heading_grows, right_join, right_split}
 
--- If a test of an optional value passes, the value is present and passes the test.
-
-held : {A : Type 0} (o : Option A) (test : A → Bool) → some_and o test ≡ true → (a : A) × (o ≡ Some a) × (test a ≡ true)
-held None test h = absurd (true≢false (sym h))
-held (Some a) test h = (a, refl, h)
-
 found : {X Y Z : Type 0} (p : X → Y) (q : X → Z) (P : X → Type 0) (r : Option Y) (s : Option Z) → Agree p q P r s → (z : Z) → s ≡ Some z → (x : X) × (r ≡ Some (p x)) × (q x ≡ z) × P x
 found {X} {Y} {Z} p q P r s (a, e, e', holds) z h = go a e holds (sym e' ∙ h)
   where
     go : (a : Option X) → r ≡ option_map p a → HoldsOf P a → option_map q a ≡ Some z → (x : X) × (r ≡ Some (p x)) × (q x ≡ z) × P x
     go None e holds h = absurd (cc)
     go (Some x) e holds h = (x, e, some_inverse h, holds)
-
-pub block-parts : (env : TypeEnvironment Label) (j : ℕ) (b : Tree Label block) → block_fits as_labels env j b ≡ true
-    → (inner : TypeEnvironment Label) × (declare_block as_labels env j b ≡ Some inner) × (procedures_fit as_labels inner (after_variables j b) (block_statements b) (block_procedures b) ≡ true)
-unfolding block_fits
-block-parts env j (has_body (declares cs ts vs ps) statements) h =
-    held (declare_block as_labels env j (has_body (declares cs ts vs ps) statements)) (λ inner. procedures_fit as_labels inner (after_variables j (has_body (declares cs ts vs ps) statements)) statements ps) h
-
-pub block-listed : (env : TypeEnvironment Label) (j : ℕ) (b : Tree Label block) (inner : TypeEnvironment Label) → declare_block as_labels env j b ≡ Some inner
-    → block_bindings as_labels env j b ≡ procedures_bindings as_labels inner (after_variables j b) (block_procedures b) ++ since env inner
-unfolding block_bindings
-block-listed env j (has_body (declares cs ts vs ps) statements) inner e =
-    ap (λ o. for_some o (λ z. procedures_bindings as_labels z (after_variables j (has_body (declares cs ts vs ps) statements)) ps ++ since env z)) e
 
 -- the list of names after a block's constants, types and variables, with facts about it
 record Opened (noted : TypeNoted Name) (j k : ℕ) (b : Tree Name block) : Type 0 where
@@ -108,24 +92,9 @@ pub record FitParts (env : TypeEnvironment Label) (j : ℕ) (statements : Tree L
 pub procedure-parts : (env : TypeEnvironment Label) (j : ℕ) (statements : Tree Label (maybe body)) (x : Label) (fs : Tree Label (maybe formals)) (b : Tree Label block) (closing : Label) (rest : Tree Label (items procedure))
     → procedures_fit as_labels env j statements (more (declares_procedure x fs b closing) rest) ≡ true
     → (qs : List (TypedParameter Label)) × (typed_parameters as_labels env j (formal_sections fs) ≡ Some qs) × FitParts env j statements x fs b closing rest qs
-unfolding block_fits block_bindings declare_procedure
 procedure-parts env j statements x fs b closing rest h =
-    let p : Tree Label (item procedure) = declares_procedure x fs b closing in
-    let all = held (typed_parameters as_labels env j (formal_sections fs)) (λ ps. procedure_fits as_labels (bind_typed ps (heading x ps env)) j p && procedures_fit as_labels (heading x ps env) (j + procedure_constructors p) statements rest) h in
-    let qs : List (TypedParameter Label) = all.0 in
-    let both = and_parts (procedure_fits as_labels (bind_typed qs (heading x qs env)) j p) (procedures_fit as_labels (heading x qs env) (j + procedure_constructors p) statements rest) all.2 in
-    let given : declare_procedure as_labels env j p ≡ Some (heading x qs env) =
-    ap (option_and_then (λ ps. if procedure_fits as_labels (bind_typed ps (heading x ps env)) j p then Some (heading x ps env) else None)) all.1
-    ∙ ap (λ t. if t then Some (heading x qs env) else None) both.0 in (
-      qs,
-      all.1,
-      record {
-        listed = ap (λ o. for_some o (λ later. procedures_bindings as_labels later (j + procedure_constructors p) rest ++ procedure_bindings as_labels env j p)) given
-            ∙ ap (λ e. procedures_bindings as_labels (heading x qs env) (j + procedure_constructors p) rest ++ e) (headed_bindings env j x closing fs b qs all.1);
-        block_right = both.0;
-        rest_right = both.1;
-      },
-    )
+    let f = blocks.procedure-parts env j statements x fs b closing rest h in
+    (f.listed, f.typed, record { listed = blocks.procedures-listed env j statements x fs b closing rest f; block_right = f.block_right; rest_right = f.rest_right })
 
 record Entered (noted : TypeNoted Name) (j k : ℕ) (statements : Tree Label (maybe body)) (fs : Tree Name (maybe formals)) (fs' : Tree Label (maybe formals)) (b : Tree Label block) (closing : Label) (rest : Tree Label (items procedure)) : Type 0 where
   pub listed : List (TypedParameter Name)
@@ -155,10 +124,6 @@ object-right objects (b ∷ noted) right x =
     ≡ option_and_then objects (elim v [ true ↦ Some b.ordinal | false ↦ ordinal_of as_names (typed_scope noted) x ]))
     [ true ↦ sym right.0 | false ↦ object-right objects noted right.1 x ]
 
-label_back : (o : Option ℕ) (x : Name) → label_ordinal (as_label as_names o x) ≡ o
-label_back None x = refl
-label_back (Some k) x = refl
-
 abbrev first_item : {N : Type 0} {i : Item} → Tree N (item i) → Tree N (items i) → Tree N (item i)
 first_item d end = d
 first_item d (more t ts) = t
@@ -166,10 +131,6 @@ first_item d (more t ts) = t
 abbrev rest_items : {N : Type 0} {i : Item} → Tree N (items i) → Tree N (items i)
 rest_items end = end
 rest_items (more t ts) = ts
-
-pub bind_typed-append : (ps : List (TypedParameter Label)) (first env : TypeEnvironment Label) → bind_typed ps (first ++ env) ≡ bind_typed ps first ++ env
-bind_typed-append [] first env = refl
-bind_typed-append (p ∷ ps) first env = bind_typed-append ps ((p.name, a_variable p.formal.shape) ∷ first) env
 
 -- `own_of` returns the list of names after a procedure's heading. `inside_of` returns the list of names within the
 -- procedure.
@@ -426,9 +387,6 @@ module _ (l : ℕ → Name → Name) (at : ℕ → Option ℕ) (text : ℕ → N
 outermost-descends : Descends 7 (outermost as_labels) 0
 outermost-descends = (6, refl, omega arith, (5, refl, omega arith, (4, refl, omega arith, (3, refl, omega arith, (2, refl, omega arith, (1, refl, omega arith, (0, refl, omega arith, omega arith)))))))
 
-outermost-below : TypedBelow 7 (typed_outermost as_names)
-outermost-below = (lit< tt, (lit< tt, (lit< tt, (lit< tt, (lit< tt, (lit< tt, (lit< tt, tt)))))))
-
 -- Each binding of a well-typed module has the object of its ordinal.
 pub bindings_right : (r : Resolution) → WellTyped (named_tree_of r.module_read) → Right (declared_object (named_tree_of r.module_read)) (module_bindings as_labels (numbered (named_tree_of r.module_read)))
 unfolding WellTyped fits_over
@@ -436,7 +394,7 @@ bindings_right r fits =
     let p : Parsed = r.module_read in
     let b : Tree ℕ block = module_block (tree_of p) in
     let all : TypeEnvironment Label = block_bindings as_labels (outermost as_labels) 0 (relabel_block as_names (as_label as_names) (typed_scope (typed_outermost as_names)) 7 (mapped (text_at p.source) (value_at p.source) b)) in
-    let held = block-held (λ k x. x) (ordinal_in []) (text_at p.source) (value_at p.source) (ordinal_in r.ordinals) (declared_object (named_tree_of p)) (typed_outermost as_names) 0 7 outermost-below b (sym (fits_by_ordinal-holds (named_tree_of p)) ∙ fits.1) in
+    let held = block-held (λ k x. x) (ordinal_in []) (text_at p.source) (value_at p.source) (ordinal_in r.ordinals) (declared_object (named_tree_of p)) (typed_outermost as_names) 0 7 predeclared-below b (sym (fits_by_ordinal-holds (named_tree_of p)) ∙ fits.1) in
     bound_right (after_block 7 (mapped (text_at p.source) (value_at p.source) b)) (all ++ outermost as_labels) (descends_join (after_block 7 (mapped (text_at p.source) (value_at p.source) b)) 7 0 all (outermost as_labels) held.descends outermost-descends)
 
 pub owners_by_declaration-holds : OwnersByDeclaration
@@ -449,7 +407,7 @@ owners_by_declaration-holds r owners named fits has = λ l.
     let objects : ℕ → Option (Object Shape Signature) = declared_object (named_tree_of p) in
     let noted : TypeNoted Name = typed_outermost as_names in
     let all : TypeEnvironment Label = block_bindings as_labels (outermost as_labels) 0 (relabel_block as_names (as_label as_names) (typed_scope noted) 7 (mapped text value b)) in
-    let held = block-held l (ordinal_in owners) text value (ordinal_in r.ordinals) objects noted 0 7 outermost-below b (sym (fits_by_ordinal-holds (named_tree_of p)) ∙ fits.1) in
+    let held = block-held l (ordinal_in owners) text value (ordinal_in r.ordinals) objects noted 0 7 predeclared-below b (sym (fits_by_ordinal-holds (named_tree_of p)) ∙ fits.1) in
     let n : ℕ = after_block 7 (mapped text value b) in
     let right : Right objects (all ++ outermost as_labels) = bound_right n (all ++ outermost as_labels) (descends_join n 7 0 all (outermost as_labels) held.descends outermost-descends) in
     let two = right_split objects all (outermost as_labels) right in

@@ -1,12 +1,12 @@
 -- Identifiers in text order, and the fields among them, are split uniquely around a closing name.
 use Rattle.std.proofs.Common.{◌≡◌, ℕ, ◌+◌, ◌<◌, ◌≤◌, Bool, true, false, if◌then◌else◌, List, [], ◌∷◌, ◌++◌, Some, None, Option, unwrap_or, refl, ap, ◌∙◌, arith, le_refl, append-nil}
 use Rattle.std.proofs.lemmas.List.Elements.{filter-append}
+use Rattle.std.proofs.lemmas.Bool.{le-leb}
 use Rattle.std.specs.List.{AllByRecursion, filter}
 use Rattle.ob0_tree.specs.declared.tree.Role.{Role}
 use Rattle.ob0_tree.specs.Order.{Ascending, names_only}
 use Rattle.ob0_tree.specs.FirstIdentifier.{first_of}
 use Rattle.ob0_tree.proofs.Leaves.{ascending_bounds}
-use Rattle.ob0_scope_table.proofs.OneBody.{le_true}
 use Rattle.ob0_types_fields.specs.declared.field_name.FieldName.{FieldName}
 use Rattle.ob0_types_fields.specs.Listed.{fields_from}
 use Rattle.ob0_types_fields.specs.Owned.{fields_among}
@@ -143,4 +143,4 @@ fields_around before inner after closing = among-append before (inner ++ ((closi
 -- All fields are at or after token 0.
 pub all_from_start : (xs : List FieldName) → fields_from 0 xs ≡ xs
 all_from_start [] = refl
-all_from_start (x ∷ xs) = (λ i. if le_true 0 x.token (omega arith) i then x ∷ fields_from 0 xs else fields_from 0 xs) ∙ ap (λ l. x ∷ l) (all_from_start xs)
+all_from_start (x ∷ xs) = (λ i. if le-leb 0 x.token (omega arith) i then x ∷ fields_from 0 xs else fields_from 0 xs) ∙ ap (λ l. x ∷ l) (all_from_start xs)

@@ -16,6 +16,7 @@ use Rattle.ob0_language_names.specs.Names.{Label, Name, as_labels, as_names, lab
 use Rattle.ob0_language_names.specs.Parts.{formal_names, formal_sections, further_names, module_block, names_listed, section_types, section_variables}
 use Rattle.ob0_scope_table.specs.Resolution.{IsResolution, Resolution, ordinal_in}
 use Rattle.ob0_language_names.specs.Scopes.{as_label}
+use Rattle.ob0_language_names.proofs.NameEquality.{same_name-refl}
 use Rattle.ob0_language_types.specs.Declarations.{after_formals, after_types, after_variables, block_constructors, formals_constructors, procedure_constructors, procedures_constructors, types_constructors, variables_constructors}
 use Rattle.ob0_language_types.specs.Environments.{meanings}
 use Rattle.ob0_scope_table.specs.InLabels.{in_labels, label_in}
@@ -102,9 +103,6 @@ place_in k i = record { ordinal = k; index = i }
 
 within-is : (s t : Shape) → within_limits s ≡ Some t → s ≡ t
 within-is s t = elim (nat_le (scalars s) 65536 && nat_le (depth s) 100) as (λ b. (if b then Some s else None) ≡ Some t → s ≡ t) [ true ↦ λ h. some_inverse h | false ↦ λ h. absurd (cc) ]
-
-itself : (x : Name) → same_name x x ≡ true
-itself x = (bytes_eq-Decides x x).1 refl
 
 -- ---- each ARRAY and RECORD constructs one type
 
@@ -282,14 +280,14 @@ module _ (r : Resolution) where
         → AllByRecursion (λ x. is_some (typed_field_named (record_shape o all) (text x)) ≡ true) (further_names ns)
     further-have end before s has = tt
     further-have (more (then_name x) rest) before s has = (
-      name-typed (text x) s (has (text x) (among-right (text x) before (text x ∷ further_names (mapped text value rest)) (ap (λ b. b || is_among (text x) (further_names (mapped text value rest))) (itself (text x))))),
+      name-typed (text x) s (has (text x) (among-right (text x) before (text x ∷ further_names (mapped text value rest)) (ap (λ b. b || is_among (text x) (further_names (mapped text value rest))) (same_name-refl (text x))))),
       further-have rest [] s (λ y among. has y (among-right y before (text x ∷ further_names (mapped text value rest)) (or_right (same_name y (text x)) (is_among y (further_names (mapped text value rest))) among))),
     )
 
     names-have : (ns : Tree ℕ names) (s : Shape) → ((y : Name) → is_among y (names_listed (mapped text value ns)) ≡ true → shape_of_field all y ≡ Some s)
         → AllByRecursion (λ x. is_some (typed_field_named (record_shape o all) (text x)) ≡ true) (names_listed ns)
     names-have (listed x rest) s has = (
-      name-typed (text x) s (has (text x) (ap (λ b. b || is_among (text x) (further_names (mapped text value rest))) (itself (text x)))),
+      name-typed (text x) s (has (text x) (ap (λ b. b || is_among (text x) (further_names (mapped text value rest))) (same_name-refl (text x)))),
       further-have rest (text x ∷ []) s has,
     )
 
@@ -349,7 +347,7 @@ module _ (r : Resolution) where
         let one = then_some (denoted (meanings as_labels env) k (in_labels r t)) (λ s. Some (with_fields (map label_text (names_listed (in_labels r ns))) s later)) fs h in
         let is : fs ≡ with_fields own one.0 later = sym (some_inverse one.2) ∙ ap (λ xs. with_fields xs one.0 later) (texts ns plain.0) in
         let has : (y : Name) → is_among y own ≡ true → shape_of_field all y ≡ Some one.0 = λ y among. agree y among ∙ (ap (λ z. shape_of_field z y) is ∙ with-among y own one.0 later among) in
-        let first : shape_of_field all (text x) ≡ Some one.0 = has (text x) (ap (λ b. b || is_among (text x) (further_names (mapped text value rest))) (itself (text x))) in
+        let first : shape_of_field all (text x) ≡ Some one.0 = has (text x) (ap (λ b. b || is_among (text x) (further_names (mapped text value rest))) (same_name-refl (text x))) in
         let made : List (Option Shape) = constructed (meaning r) (Some one.0) t in
         subst (λ z. AllByRecursion (InRecord (record_shape o all) j (constructed (meaning r) z t) n) (marked_names j (names_listed ns) ++ marked_type n t)) (sym first)
         (each-both (InRecord (record_shape o all) j made n) (marked_names j (names_listed ns)) (marked_type n t)

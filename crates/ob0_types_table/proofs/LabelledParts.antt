@@ -2,12 +2,10 @@
 use Rattle.std.proofs.Common.{◌≡◌, ℕ, ◌+◌, ◌<◌, Bool, true, false, cond, List, [], ◌∷◌, length, get_or, drop, refl, sym, ap, ◌∙◌}
 use Rattle.std.proofs.lemmas.List.{drop_more}
 use Rattle.ob0_tree.specs.declared.tree.Expression.{Expression}
-use Rattle.ob0_tree.specs.declared.tree.Procedure.{Procedure, out-Procedure, roll-out-Procedure}
 use Rattle.ob0_tree.specs.declared.tree.Section.{Section}
-use Rattle.ob0_tree.specs.Tree.{declares_procedure, one, value_section, variable_section}
+use Rattle.ob0_tree.specs.Tree.{one, value_section, variable_section}
 use Rattle.ob0_tree.specs.View as view
-use Rattle.ob0_tree.specs.View.{block_of, expression_of, formals_of, further_argument_of, items_of, names_of, procedure_of, section_of, type_of}
-use Rattle.ob0_tree.proofs.Viewed.{procedure_made}
+use Rattle.ob0_tree.specs.View.{expression_of, further_argument_of, items_of, names_of, section_of, type_of}
 use Rattle.ob0_language_names.specs.Parts.{names_listed, section_names}
 use Rattle.ob0_scope_table.specs.Resolution.{Resolution}
 use Rattle.ob0_types_table.specs.Designators.{all_in_labels}
@@ -29,10 +27,6 @@ section-mode mode_of marked unmarked r s = by_mode s.by_reference
     by_mode : (b : Bool) → section_mode (in_labels r (cond b (variable_section (names_of s.names) (type_of s.written)) (value_section (names_of s.names) (type_of s.written)))) ≡ mode_of b
     by_mode true = sym marked
     by_mode false = sym unmarked
-
--- A procedure consists of its name, its formal parameters, its block and its closing name.
-pub procedure_parts : (p : Procedure) → procedure_of p ≡ declares_procedure (out-Procedure p).name (formals_of (out-Procedure p).formals) (block_of (out-Procedure p).block) (out-Procedure p).closing
-procedure_parts p = sym (ap procedure_of (roll-out-Procedure p)) ∙ procedure_made (out-Procedure p)
 
 -- A list of arguments has its expressions in order.
 further_listed : (r : Resolution) (es : List Expression) → further_arguments (in_labels r (items_of further_argument_of es)) ≡ all_in_labels r es
