@@ -98,7 +98,6 @@ unfoldable mutual
   unfolding reported_expression
   -- returns the faults of a type, and the type with the state after it; the parts of an array or a
   -- record come first
-  -- returns the faults of a type, and the type: a name, or an array or a record after its parts
   pub reported_type : ℕ → SoFar → Tree ℕ written_type → Reported TypedAfter
   reported_type around p (named_type x) = do
     t ← type_named (facts_at p false) x
@@ -121,7 +120,6 @@ unfoldable mutual
     right (gathered_after so_far (names_listed ns) u)
   -- returns the faults of further groups of fields, and the earlier fields with the fields of these
   -- groups added
-  -- returns the faults of further groups of fields, and the earlier fields with theirs added
   pub reported_groups : ℕ → Gathered → Tree ℕ (items further_fields) → Reported Gathered
   reported_groups around so_far end = right so_far
   reported_groups around so_far (more (then_fields g) rest) = do
@@ -129,7 +127,6 @@ unfoldable mutual
     reported_groups around next rest
 -- returns the faults of one more group of fields, and the earlier fields with the fields of this
 -- group added
--- returns the faults of one more group of fields, and the earlier fields with its fields added
 unfoldable pub reported_group : ℕ → Gathered → Tree ℕ (item further_fields) → Reported Gathered
 unfolding reported_type
 reported_group around so_far (then_fields g) = reported_fields around so_far g
