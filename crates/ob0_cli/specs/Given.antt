@@ -61,8 +61,9 @@ pub record Gives (words : List Text) (line : CommandLine) : Type 0 where
   pub fine : fault_of ob0_app words ≡ []
   pub read : IsReadFrom (subcommand_of ob0_app words) line
 
--- Holds if the words may be refused so. The error's kind is the kind of their first fault, and
--- never 'out of memory'. A failed allocation is allowed for any words.
+-- Holds if the words may be refused so. The error's kind is among those that clap lists for their
+-- first fault, and never 'out of memory'. For `help` and for an unknown subcommand clap lists two
+-- kinds. A failed allocation is allowed for any words.
 abbrev pub RefusesWords : List Text → CommandFault → Type 0
 RefusesWords words (Refused error) =
     IsAmong (kind_of error) (fault_of ob0_app words) × ¬ (kind_of error ≡ OutOfMemory)
