@@ -44,8 +44,8 @@ abbrev pub IsRefusal : Result (Vec Edit Global) EditRefusal
 IsRefusal (Ok edits) Said = ⊥
 IsRefusal (Err refusal) Said = Said (Some (refused_line refusal))
 
--- Holds if the file has a text, some edits put the new name into it, and the edited text is printed.
--- Positions count UTF-16 units.
+-- Holds if the file has a text, some edits put the new name into it, and the edited text is
+-- printed. Positions count UTF-16 units.
 pub record PrintsRenamed (file : List ℕ) (position : Position) (new : List ℕ)
     (before after : Option (List ℕ)) : Type 0 where
   pub has_text : IsTextFile file
