@@ -62,8 +62,9 @@ pub record Gives (words : List Text) (line : CommandLine) : Type 0 where
   pub fine : fault_of ob0_app words ≡ []
   pub read : IsReadFrom (subcommand_of ob0_app words) line
 
--- Holds for a refusal if the error's kind is the kind of a fault of the words, and isn't 'out of
--- memory'. Always holds for a failed allocation.
+-- Holds if the words may be refused with this fault. The error's kind is among those that clap lists
+-- for the words' first fault, and never 'out of memory'. For `help` and for an unknown subcommand
+-- clap lists two kinds. A failed allocation is allowed for any words.
 abbrev pub RefusesWords : List Text → CommandFault → Type 0
 RefusesWords words (Refused error) =
     IsAmong (kind_of error) (fault_of ob0_app words) × ¬ (kind_of error ≡ OutOfMemory)

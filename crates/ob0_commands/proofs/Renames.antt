@@ -1,14 +1,22 @@
 -- Proves that a text is printed only if the edits put the name into the file's text. If the name is refused, no text is
 -- printed.
-use Rattle.std.proofs.Common.{◌≡◌, ℕ, List, Option, Some, Result, Ok, Err, Vec, Global, subst}
-use Rattle.std.specs.Str.{chars}
+use Rattle.std.proofs.Common.{◌≡◌, ◌∙◌, ◌≤◌, ℕ, List, Option, Some, Result, Ok, Err, Vec, Global, length, subst}
+use Rattle.std.proofs.lemmas.Str.{encodes-chars}
+use Rattle.std.specs.Str.{IsUtf8, chars}
 use Rattle.ob0_text.specs.declared.edits.Edit.{Edit}
 use Rattle.ob0_text.specs.declared.position_types.Position.{Position}
 use Rattle.ob0_text.specs.declared.position_types.Unit.{Unit}
 use Rattle.ob0_text.specs.declared.position_types.Unit.TheVariants.{Utf16}
 use Rattle.ob0_text.specs.declared.refusals.EditRefusal.{EditRefusal}
+use Rattle.ob0_scan.specs.Scanned.{IsScanOf, Scanned, max_text}
+use Rattle.ob0_analysis.specs.Texts.{utf8}
 use Rattle.ob0_edits.specs.Renamings.{FindsNewName}
 use Rattle.ob0_commands.specs.Renamed.{IsRefusal, PrintsEdited, PrintsRenamed, RefusesName}
+use Rattle.ob0_commands.specs.Statuses.{IsTextFile}
+
+-- A scanned text isn't too long.
+text_file : (text : List ℕ) (s : Scanned) → IsUtf8 text → IsScanOf (utf8 (chars text)) s → IsTextFile text
+text_file text s u scan = (subst (λ (t : List ℕ). length t ≤ max_text) (scan.of ∙ encodes-chars text u) scan.scan.short, u)
 
 -- The result for a store in UTF-16 units that holds the text is a result for the text.
 pub found_in_text : (unit : Unit) (content text : List ℕ) (place : Position) (new : List ℕ) (found : Option (Result (Vec Edit Global) EditRefusal)) (outcome : Result (Vec Edit Global) EditRefusal)
@@ -25,11 +33,11 @@ edited_in_text unit content text outcome before after counts holds h =
     subst (λ (t : List ℕ). PrintsEdited Utf16 t outcome before after) holds in_unit
 
 pub prints_renamed : (text : List ℕ) (place : Position) (new : List ℕ) (outcome : Result (Vec Edit Global) EditRefusal) (before after : Option (List ℕ))
-    → FindsNewName Utf16 (chars text) place new (Some outcome) → PrintsEdited Utf16 (chars text) outcome before after → PrintsRenamed text place new before after
-prints_renamed text place new (Ok edits) before after h p = record { edits = edits.items; rename = h; prints = p }
-prints_renamed text place new (Err refusal) before after h p = absurd p
+    → IsUtf8 text → FindsNewName Utf16 (chars text) place new (Some outcome) → PrintsEdited Utf16 (chars text) outcome before after → PrintsRenamed text place new before after
+prints_renamed text place new (Ok edits) before after u h p = record { has_text = text_file text h.names.module_read.source u h.read.scan; edits = edits.items; rename = h; prints = p }
+prints_renamed text place new (Err refusal) before after u h p = absurd p
 
 pub refuses_name : (text : List ℕ) (place : Position) (new : List ℕ) (outcome : Result (Vec Edit Global) EditRefusal) (before after : Option (List ℕ))
-    → FindsNewName Utf16 (chars text) place new (Some outcome) → (Said : Option (List ℕ) → Type 0) → IsRefusal outcome Said → after ≡ before → RefusesName text place new before after Said
-refuses_name text place new (Ok edits) before after h Said p e = absurd p
-refuses_name text place new (Err refusal) before after h Said p e = record { refusal = refusal; refused = h; nothing = e; said = p }
+    → IsUtf8 text → FindsNewName Utf16 (chars text) place new (Some outcome) → (Said : Option (List ℕ) → Type 0) → IsRefusal outcome Said → after ≡ before → RefusesName text place new before after Said
+refuses_name text place new (Ok edits) before after u h Said p e = absurd p
+refuses_name text place new (Err refusal) before after u h Said p e = record { has_text = text_file text h.names.module_read.source u h.read.scan; refusal = refusal; refused = h; nothing = e; said = p }

@@ -3,7 +3,7 @@
 use Rattle.std.specs.Prelude.{◌≡◌, ◌⊎◌, ℕ, List, Option, Some, None, Result, Ok, Err, Vec, Bool, true}
 use Rattle.std.specs.declared.alloc.Global.{Global}
 use Rattle.std.specs.Io.KnownBytes.{Appends}
-use Rattle.std.specs.Str.{chars}
+use Rattle.std.specs.Str.{IsUtf8, chars}
 use Rattle.ob0_text.specs.Patches.{patched}
 use Rattle.ob0_text.specs.Units.{width_of}
 use Rattle.ob0_text.specs.declared.edits.Edit.{Edit}
@@ -16,12 +16,14 @@ use Rattle.ob0_commands.specs.Endings.{EndsWell}
 use Rattle.ob0_commands.specs.Outputs.{IsFlushedOrUnchanged}
 use Rattle.ob0_commands.specs.Printed.{PrintsFaults}
 use Rattle.ob0_commands.specs.Said.{refused_line}
+use Rattle.ob0_commands.specs.Statuses.{IsTextFile}
 
 -- Holds if the edits can be applied to the text, and the known bytes of the output grow by the
--- edited text.
+-- edited text, in UTF-8.
 pub record PrintsPatched (unit : Unit) (content : List ℕ) (edits : List Edit)
     (before after : Option (List ℕ)) : Type 0 where
   pub text : List ℕ
+  pub utf8 : IsUtf8 text
   pub made : patched (width_of unit) content edits ≡ Some (chars text)
   pub printed : Appends before after text
 
@@ -44,18 +46,20 @@ abbrev pub IsRefusal : Result (Vec Edit Global) EditRefusal
 IsRefusal (Ok edits) Said = ⊥
 IsRefusal (Err refusal) Said = Said (Some (refused_line refusal))
 
--- Holds if some edits put the new name into the file's text, and the edited text is printed.
--- Positions count UTF-16 units.
+-- Holds if the file has a text, some edits put the new name into it, and the edited text is
+-- printed. Positions count UTF-16 units.
 pub record PrintsRenamed (file : List ℕ) (position : Position) (new : List ℕ)
     (before after : Option (List ℕ)) : Type 0 where
+  pub has_text : IsTextFile file
   pub edits : List Edit
   pub rename : RenamesIn Utf16 (chars file) position new edits
   pub prints : PrintsPatched Utf16 (chars file) edits before after
 
--- Holds if the name is refused, the refusal is printed on standard error, and the output is
--- unchanged.
+-- Holds if the file has a text, the name is refused, the refusal is printed on standard error, and
+-- the output is unchanged.
 pub record RefusesName (file : List ℕ) (position : Position) (new : List ℕ)
     (before after : Option (List ℕ)) (Said : Option (List ℕ) → Type 0) : Type 0 where
+  pub has_text : IsTextFile file
   pub refusal : EditRefusal
   pub refused : IsRefusedIn Utf16 (chars file) position new refusal
   pub nothing : after ≡ before

@@ -22,6 +22,10 @@ status_of fault.Memory = 5
 abbrev pub StopsPrinting : FileFault → Type 0
 StopsPrinting f = (f ≡ fault.Write) ⊎ (f ≡ fault.Memory)
 
+-- Holds if the file has a text: its bytes are UTF-8, and it isn't too long.
+abbrev pub IsTextFile : List ℕ → Type 0
+IsTextFile file = (length file ≤ max_text) × IsUtf8 file
+
 -- Holds if the file has no text: its bytes aren't UTF-8, and it isn't too long.
 abbrev pub HasNoText : List ℕ → Type 0
 HasNoText file = (length file ≤ max_text) × ¬ (IsUtf8 file)

@@ -12,13 +12,13 @@ returns-in-Some-clause-ends g c =
     IfOk-weaker c.print_edited.result _ _ (λ status h. record {
       low = h.low;
       good = λ zero. (
-        prints_renamed c.args.text.now c.args.position c.args.new.now c.in-Some.outcome _ _ found
+        prints_renamed c.args.text.now c.args.position c.args.new.now c.in-Some.outcome _ _ c.utf8.text found
             (edited_in_text _ _ c.args.text.now c.in-Some.outcome _ _ c.in_ok-store.ensures.unit c.in_ok-store.ensures.content (h.good zero).0),
         (h.good zero).1,
         (h.good zero).2,
       );
       other = λ one. (
-        inr (refuses_name c.args.text.now c.args.position c.args.new.now c.in-Some.outcome _ _ found (Says g.E.Write.contents g.E.Output.is_flushed g.E.Output.has_failed c.args.err.now c.print_edited.new.err) (h.other one).0 (ap g.O.Write.contents (h.other one).1)),
+        inr (refuses_name c.args.text.now c.args.position c.args.new.now c.in-Some.outcome _ _ c.utf8.text found (Says g.E.Write.contents g.E.Output.is_flushed g.E.Output.has_failed c.args.err.now c.print_edited.new.err) (h.other one).0 (ap g.O.Write.contents (h.other one).1)),
         inr (h.other one).1,
       );
       both = h.both;
