@@ -1,0 +1,16 @@
+-- Sums of two numbers of 32 bits, computed in 64 bits.
+use Rattle.std.proofs.Common.{◌≡◌, ℕ, suc, arith, ℤ, pos, negsuc, ◌+ℤ◌, ◌-◌, ◌≤◌, ◌≤ℤ◌, ◌<◌, FitsSigned, w32, w64, of_z, subst}
+use Rattle.std.proofs.lemmas.Int.{ints}
+
+-- a number that isn't far below 0 has no more than 32 bits as an unsigned one only if it is there
+near : (z : ℤ) → negsuc 4294967295 ≤ℤ z → of_z w64 z ≤ 4294967295 → (pos 0 ≤ℤ z) × (z ≤ℤ pos 4294967295)
+near (pos n) low few = (omega (arith, ints), omega (arith, ints, few))
+near (negsuc n) low few = let large : 18446744073709551616 - suc n ≤ 4294967295 = few in absurd (omega (arith, ints, large, low))
+
+fits : (z : ℤ) → (pos 0 ≤ℤ (z +ℤ pos 2147483648)) × ((z +ℤ pos 2147483648) ≤ℤ pos 4294967295) → FitsSigned w32 z
+fits (pos n) h = let small : n < 2147483648 = omega (arith, ints, h.1) in record { sfits = small }
+fits (negsuc n) h = let small : n < 2147483648 = omega (arith, ints, h.0) in record { sfits = small }
+
+-- a sum that isn't too far from the least number has 32 bits
+pub fits_by : (l r : ℤ) (d : ℕ) → FitsSigned w32 l → FitsSigned w32 r → d ≡ of_z w64 (l +ℤ r +ℤ pos 2147483648) → d ≤ 4294967295 → FitsSigned w32 (l +ℤ r)
+fits_by l r d a b e few = fits (l +ℤ r) (near (l +ℤ r +ℤ pos 2147483648) (omega (arith, ints, a.sfits, b.sfits)) (subst (λ d. d ≤ 4294967295) e few))
