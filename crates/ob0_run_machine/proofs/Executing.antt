@@ -257,18 +257,18 @@ before_last {start = start} {m = m} t ls xs e x d = record {
       subst (MachineSteps (Err e) m) (sym (all-after enters t ls xs x (state_of start))) (failed_then e m (execute_all enters t ls (sequence_of xs) (state_of start)) (execute enters t ls (statement_of x)) (d.as_defined enters p));
 }
 
-pub counted_as : {post : Post} {r : Result (Unit {0}) Stop} {m m' : Machine} (t : ℕ) (ls : Levels) (v : Variable) (xs : List Instruction) {a b : ℤ} → a ≡ b
-    → MachineDoes post r m m' (executed_all t ls (sequence_of (xs ++ Increase v a ∷ []))) → MachineDoes post r m m' (executed_all t ls (sequence_of (xs ++ Increase v b ∷ [])))
-counted_as {post = post} {r = r} {m = m} {m' = m'} t ls v xs e h = subst (λ n. MachineDoes post r m m' (executed_all t ls (sequence_of (xs ++ Increase v n ∷ [])))) e h
-
 pub steps_by : (m : Machine) (r : Result (Unit {0}) Stop) (p : MachineProgress) (e : Ending) → (y : Stop) × (r ≡ Err y) × (end_at y ≡ Some (end_of e)) → stopped (end_of e) (items_out m.output.items) ≡ p → MachineSteps r m p
 steps_by m r p e q h = subst (λ r. MachineSteps r m p) (sym q.1) (subst (λ o. StopsRun o m p) (sym q.2) (sym h))
 
 pub steps_as : (enters : CallEffect) (t : ℕ) (ls : Levels) (v : Variable) (r : Result (Unit {0}) Stop) (m : Machine) (s : MachineState) {a b : ℤ} → a ≡ b → MachineSteps r m (execute enters t ls (increases v a) s) → MachineSteps r m (execute enters t ls (increases v b) s)
 steps_as enters t ls v r m s e h = subst (λ n. MachineSteps r m (execute enters t ls (increases v n) s)) e h
 
-pub limit_same : (ls : Levels) (cells : List ℤ) (v : Variable) (x : Bool) {a b : ℤ} → a ≡ b → gives x ≡ truth ls cells (compared_by relation.Less v (lowered.literal a)) → gives x ≡ truth ls cells (compared_by relation.Less v (lowered.literal b))
-limit_same ls cells v x e h = subst (λ n. gives x ≡ truth ls cells (compared_by relation.Less v (lowered.literal n))) e h
+pub loop_as : {post : Post} {r : Result (Unit {0}) Stop} {m m' : Machine} (t : ℕ) (ls : Levels) (v u : Variable) (xs : List Instruction) {n n' b b' : ℤ} → n ≡ n' → b ≡ b'
+    → MachineDoes post r m m' (executed t ls (lowered.while_loop (compared_by relation.Less v (lowered.literal n)) (sequence_of (xs ++ Increase u b ∷ []))))
+    → MachineDoes post r m m' (executed t ls (lowered.while_loop (compared_by relation.Less v (lowered.literal n')) (sequence_of (xs ++ Increase u b' ∷ []))))
+loop_as {post = post} {r = r} {m = m} {m' = m'} t ls v u xs {n = n} {b' = b'} e f h =
+    subst (λ n. MachineDoes post r m m' (executed t ls (lowered.while_loop (compared_by relation.Less v (lowered.literal n)) (sequence_of (xs ++ Increase u b' ∷ []))))) e
+    (subst (λ b. MachineDoes post r m m' (executed t ls (lowered.while_loop (compared_by relation.Less v (lowered.literal n)) (sequence_of (xs ++ Increase u b ∷ []))))) f h)
 
 -- a variable at a known address that is compared with a literal
 pub compared_at : (ls : Levels) (cells : List ℤ) (v : Variable) (a : ℕ) (n : ℤ) (b : Bool) → address ls cells (variable_of v) ≡ gives a → b ≡ compare lowered.less (cell_at cells a) n → gives b ≡ truth ls cells (compared_by relation.Less v (lowered.literal n))

@@ -11,6 +11,8 @@ fits : (z : ℤ) → (pos 0 ≤ℤ (z +ℤ pos 2147483648)) × ((z +ℤ pos 2147
 fits (pos n) h = let small : n < 2147483648 = omega (arith, ints, h.1) in record { sfits = small }
 fits (negsuc n) h = let small : n < 2147483648 = omega (arith, ints, h.0) in record { sfits = small }
 
--- a sum that isn't too far from the least number has 32 bits
-pub fits_by : (l r : ℤ) (d : ℕ) → FitsSigned w32 l → FitsSigned w32 r → d ≡ of_z w64 (l +ℤ r +ℤ pos 2147483648) → d ≤ 4294967295 → FitsSigned w32 (l +ℤ r)
-fits_by l r d a b e few = fits (l +ℤ r) (near (l +ℤ r +ℤ pos 2147483648) (omega (arith, ints, a.sfits, b.sfits)) (subst (λ d. d ≤ 4294967295) e few))
+-- A sum of two numbers has 32 bits if its distance from the least number, as an unsigned number, has.
+pub fits_by : (l r x : ℤ) (d : ℕ) → FitsSigned w32 l → FitsSigned w32 r → d ≡ of_z w64 x → x ≡ l +ℤ r +ℤ pos 2147483648 → d ≤ 4294967295 → FitsSigned w32 (l +ℤ r)
+fits_by l r x d a b e is few =
+    let near_least = near (l +ℤ r +ℤ pos 2147483648) (omega (arith, ints, a.sfits, b.sfits)) (subst (λ x. of_z w64 x ≤ 4294967295) is (subst (λ d. d ≤ 4294967295) e few)) in
+    fits (l +ℤ r) near_least

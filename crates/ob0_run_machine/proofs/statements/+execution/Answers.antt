@@ -4,7 +4,7 @@ use Rattle.ob0_run_machine.specs.declared.code.Instruction.{Increase}
 use Rattle.std.proofs.lemmas.Result.{err_from_is_err_and}
 use Rattle.ob0_run_machine.specs.Levels.{levels_of}
 use Rattle.ob0_run_machine.specs.View.{statement_of}
-use Rattle.ob0_run_machine.proofs.Executing.{before_last, branch_taken, branches_begin, does_statement, ending_by, branches_end, branches_fail, branches_on, counted_as, if_fails, if_passed, if_taken, leaving, limit_same, repeat_begins, repeat_body_fails, repeat_bound, repeat_ends, repeat_fails, repeat_on, sequence_begins, sequence_ends, sequence_fails, sequence_on, settled, steps_as, then_last, turn_made, while_begins, while_body_fails, while_bound, while_ends, while_fails, while_on}
+use Rattle.ob0_run_machine.proofs.Executing.{before_last, branch_taken, branches_begin, does_statement, ending_by, branches_end, branches_fail, branches_on, if_fails, if_passed, if_taken, leaving, loop_as, repeat_begins, repeat_body_fails, repeat_bound, repeat_ends, repeat_fails, repeat_on, sequence_begins, sequence_ends, sequence_fails, sequence_on, settled, steps_as, then_last, turn_made, while_begins, while_body_fails, while_bound, while_ends, while_fails, while_on}
 use Rattle.ob0_run_machine.proofs.Viewed.{if_made, repeat_made, while_made}
 use Rattle.ob0_run_machine.proofs.statements.+execution.Goals as goal
 
@@ -120,20 +120,20 @@ pub run_counting-again-init : goal.run_counting-again-init
 run_counting-again-init g t c = while_begins
 
 pub run_counting-returns-then-not-is_below : goal.run_counting-returns-then-not-is_below
-run_counting-returns-then-not-is_below g t c = while_ends tt c.again.invariant
-    (settled (limit_same (levels_of c.args.level.now) _ c.args.variable c.is_below.result (to_z-of_z c.ranges.limit) (c.is_below.ensures (levels_of c.args.level.now) c.args.variable (c.variable_at-compared.ensures _))) c.if-not-is_below.true)
+run_counting-returns-then-not-is_below g t c = loop_as c.args.turns (levels_of c.args.level.now) c.args.variable c.args.increased c.args.statements.now (to_z-of_z c.ranges.limit) (to_z-of_z c.ranges.by)
+    (while_ends tt c.again.invariant (settled (c.is_below.ensures (levels_of c.args.level.now) c.args.variable (c.variable_at-compared.ensures _)) c.if-not-is_below.true))
 
 pub run_counting-returns-then-left-eq0 : goal.run_counting-returns-then-left-eq0
-run_counting-returns-then-left-eq0 g t c = while_bound c.again.invariant
-    (settled (limit_same (levels_of c.args.level.now) _ c.args.variable c.is_below.result (to_z-of_z c.ranges.limit) (c.is_below.ensures (levels_of c.args.level.now) c.args.variable (c.variable_at-compared.ensures _))) c.if-not-is_below.false) c.if-left-eq0.true
+run_counting-returns-then-left-eq0 g t c = loop_as c.args.turns (levels_of c.args.level.now) c.args.variable c.args.increased c.args.statements.now (to_z-of_z c.ranges.limit) (to_z-of_z c.ranges.by)
+    (while_bound c.again.invariant (settled (c.is_below.ensures (levels_of c.args.level.now) c.args.variable (c.variable_at-compared.ensures _)) c.if-not-is_below.false) c.if-left-eq0.true)
 
 pub run_counting-again-preserved : goal.run_counting-again-preserved
 run_counting-again-preserved g t c = while_on c.in_ok-run_counted.field-0 _ c.again.invariant
-    (settled (limit_same (levels_of c.args.level.now) _ c.args.variable c.is_below.result (to_z-of_z c.ranges.limit) (c.is_below.ensures (levels_of c.args.level.now) c.args.variable (c.variable_at-compared.ensures _))) c.if-not-is_below.false) c.if-left-eq0.false refl
-    (counted_as c.args.turns (levels_of c.args.level.now) c.args.increased c.args.statements.now (to_z-of_z c.ranges.by) (c.in_ok-run_counted.ensures c.args.increased (λ cells. c.variable_at-changed.ensures cells)))
+    (settled (c.is_below.ensures (levels_of c.args.level.now) c.args.variable (c.variable_at-compared.ensures _)) c.if-not-is_below.false) c.if-left-eq0.false refl
+    (c.in_ok-run_counted.ensures c.args.increased (λ cells. c.variable_at-changed.ensures cells))
 
 pub run_counting-returns-in_err-run_counted : goal.run_counting-returns-in_err-run_counted
 run_counting-returns-in_err-run_counted g t c = leaving (err_from_is_err_and c.from_residual.result c.from_residual.ensures.1)
-    (while_body_fails c.in_err-run_counted.field-0.0 _ c.again.invariant
-    (settled (limit_same (levels_of c.args.level.now) _ c.args.variable c.is_below.result (to_z-of_z c.ranges.limit) (c.is_below.ensures (levels_of c.args.level.now) c.args.variable (c.variable_at-compared.ensures _))) c.if-not-is_below.false) c.if-left-eq0.false refl
-    (counted_as c.args.turns (levels_of c.args.level.now) c.args.increased c.args.statements.now (to_z-of_z c.ranges.by) (c.in_err-run_counted.ensures c.args.increased (λ cells. c.variable_at-changed.ensures cells))))
+    (loop_as c.args.turns (levels_of c.args.level.now) c.args.variable c.args.increased c.args.statements.now (to_z-of_z c.ranges.limit) (to_z-of_z c.ranges.by) (while_body_fails c.in_err-run_counted.field-0.0 _ c.again.invariant
+    (settled (c.is_below.ensures (levels_of c.args.level.now) c.args.variable (c.variable_at-compared.ensures _)) c.if-not-is_below.false) c.if-left-eq0.false refl
+    (c.in_err-run_counted.ensures c.args.increased (λ cells. c.variable_at-changed.ensures cells))))
