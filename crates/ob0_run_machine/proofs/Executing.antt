@@ -224,7 +224,6 @@ while_body_fails {now = now} {m = m} {t = t} {ls = ls} {w = w} {xs = xs} {left =
       (failed_then x m (execute_all enters t ls (sequence_of ss) (state_of now)) (turning enters (left - 1) t ls w xs) (d.as_defined enters p));
 }
 
-
 -- the statements of a counting loop: some, and one after them
 
 continued_running : (p : MachineProgress) (f : MachineState → MachineProgress) → ((s : MachineState) → f s ≡ running s) → continue_with p f ≡ p

@@ -13,8 +13,8 @@ ghost use Rattle.ob0_run_machine.specs.View.{applied, branches_in, call_of, chai
 
 use crate::addresses::Addresses;
 use crate::code::{
-    Chain, Comparator, Conditional, Instruction, Link, Number, Place, ProcedureCall, RepeatLoop, Row, Truth,
-    Variable, WhileLoop,
+    Chain, Comparator, Conditional, Instruction, Link, Number, Place, ProcedureCall, RepeatLoop,
+    Row, Truth, Variable, WhileLoop,
 };
 use crate::ending::{Ending, Stop};
 use crate::evaluating::{
@@ -445,7 +445,11 @@ fn is_below(address: usize, limit: i32, machine: &Machine<'_>) -> bool
         → gives result
         ≡ truth ls machine.now.cells.items (compared_by Less v (lowered.literal limit)) }
 {
-    compare(Comparator::Less, cell_at(machine.cells.as_slice(), address), limit)
+    compare(
+        Comparator::Less,
+        cell_at(machine.cells.as_slice(), address),
+        limit,
+    )
 }
 
 /// Runs the statements of a counting loop: some, and then the one that adds a number to the variable at an address.
