@@ -1,5 +1,5 @@
 -- Steps of statements: what is left of a statement, from one step of the machine to the next.
-use Rattle.std.proofs.Common.{◌≡◌, ℕ, zero, suc, arith, Bool, true, false, ℤ, ◌+◌, ◌-◌, ◌<◌, ◌≤◌, ◌≢◌, List, [], ◌∷◌, map, length, get_or, drop, refl, sym, ap, ◌∙◌, subst, Ok, Err, None, Option, Some, Result}
+use Rattle.std.proofs.Common.{◌≡◌, ℕ, zero, suc, arith, Bool, true, false, ℤ, ◌+◌, ◌-◌, ◌<◌, ◌≤◌, ◌≢◌, List, [], ◌∷◌, ◌++◌, map, length, get_or, drop, refl, sym, ap, ◌∙◌, subst, Ok, Err, None, Option, Some, Result}
 use Rattle.std.proofs.lemmas.List.{drop_all, drop_more}
 use Rattle.ob0_run_machine.specs.declared.code.Argument.{Argument}
 use Rattle.ob0_run_machine.specs.declared.level.Level as level
@@ -8,8 +8,7 @@ use Rattle.ob0_run_machine.specs.declared.code.Branch.{Branch}
 use Rattle.ob0_run_machine.specs.declared.code.ProcedureCall as call
 use Rattle.ob0_run_machine.specs.declared.code.Conditional.{Conditional, out-Conditional}
 use Rattle.ob0_run_machine.specs.declared.code.RepeatLoop.{RepeatLoop}
-use Rattle.ob0_run_machine.specs.declared.code.Instruction.{Instruction}
-use Rattle.ob0_run_machine.specs.declared.code.WhileLoop.{WhileLoop}
+use Rattle.ob0_run_machine.specs.declared.code.Instruction.{Increase, Instruction}
 use Rattle.ob0_run_machine.specs.declared.ending.Ending.{Ending}
 use Rattle.ob0_run_machine.specs.declared.ending.Stop.{Stop}
 use Rattle.ob0_run_machine.specs.declared.ending.Stop.TheVariants as stop
@@ -17,11 +16,13 @@ use Rattle.ob0_run_machine.specs.declared.machine.Machine.{Machine}
 use Rattle.ob0_run_machine.specs.declared.memory.Memory.{Memory}
 use Rattle.ob0_run_machine.specs.Allocations.{has_failed}
 use Rattle.ob0_run_machine.specs.Answers.{end_at, end_of}
-use Rattle.ob0_run_machine.specs.Evaluation.{Halt, Levels, StepResult, TurnBound, ends, gives, truth}
-use Rattle.ob0_run_machine.specs.Execution.{CallEffect, Passed, MachineProgress, MachineState, choose, entered, execute, execute_all, execute_branches, continue_with, pass_all, running, stopped, turns, turns_until, use_in}
+use Rattle.ob0_run_machine.specs.declared.code.Variable.{Variable}
+use Rattle.ob0_run_machine.specs.declared.code.Comparator.TheVariants as relation
+use Rattle.ob0_run_machine.specs.Evaluation.{Halt, Levels, StepResult, TurnBound, address, cell_at, compare, ends, gives, truth, ◌>>=◌}
+use Rattle.ob0_run_machine.specs.Execution.{CallEffect, Passed, MachineProgress, MachineState, choose, entered, execute, execute_all, execute_branches, continue_with, no_room, pass_all, running, stopped, turns, turns_until, use_in}
 use Rattle.ob0_run_machine.specs.Lowered as lowered
 use Rattle.ob0_run_machine.specs.Machines.{MachineDoes, Doing, Performs, Post, MachineSteps, StopsRun, StopsPassing, executed, executed_all, executed_others, entering, items_out, passed_in, state_of}
-use Rattle.ob0_run_machine.specs.View.{all_branches, argument_of, branches_in, call_of, others_in, otherwise_in, repeat_of, sequence_of, statement_of, truth_of, while_of}
+use Rattle.ob0_run_machine.specs.View.{all_branches, argument_of, branches_in, call_of, compared_by, increases, others_in, otherwise_in, repeat_of, sequence_of, statement_of, truth_of, variable_of}
 
 stopped_then : (o : Option Halt) (m : Machine) (p : MachineProgress) (k : MachineState → MachineProgress) → StopsRun o m p → StopsRun o m (continue_with p k)
 stopped_then (Some x) m p k h = ap (λ p. continue_with p k) h
@@ -159,69 +160,118 @@ if_passed {m = m} {m' = m'} t ls i r h d = record { as_defined = λ enters p. su
 
 -- WHILE
 
-abbrev pub turning : CallEffect → ℕ → ℕ → Levels → WhileLoop → MachineState → MachineProgress
-turning enters left t ls w = turns left (λ s'. truth ls s'.cells (truth_of w.condition)) (execute_all enters t ls (sequence_of w.body.items))
+abbrev pub turning : CallEffect → ℕ → ℕ → Levels → lowered.Truth → List Instruction → MachineState → MachineProgress
+turning enters left t ls w xs = turns left (λ s'. truth ls s'.cells w) (execute_all enters t ls (sequence_of xs))
 
-pub record InWhile (post : Post) (start now : Machine) (t : ℕ) (ls : Levels) (w : WhileLoop) (left : ℕ) : Type 0 where
-  pub so_far : (enters : CallEffect) → Performs post enters → execute enters t ls (while_of w) (state_of start) ≡ turning enters left t ls w (state_of now)
+pub record InWhile (post : Post) (start now : Machine) (t : ℕ) (ls : Levels) (w : lowered.Truth) (xs : List Instruction) (left : ℕ) : Type 0 where
+  pub so_far : (enters : CallEffect) → Performs post enters → execute enters t ls (lowered.while_loop w (sequence_of xs)) (state_of start) ≡ turning enters left t ls w xs (state_of now)
 
-pub while_begins : {post : Post} {start : Machine} {t : ℕ} {ls : Levels} {w : WhileLoop} → InWhile post start start t ls w t
+pub while_begins : {post : Post} {start : Machine} {t : ℕ} {ls : Levels} {w : lowered.Truth} {xs : List Instruction} → InWhile post start start t ls w xs t
 unfolding execute
 while_begins = record { so_far = λ enters p. refl }
 
 -- a turn more, or the bound
-pub once_more : CallEffect → ℕ → ℕ → Levels → WhileLoop → MachineState → MachineProgress
-once_more enters zero t ls w s = stopped TurnBound s.output
-once_more enters (suc left) t ls w s = continue_with (execute_all enters t ls (sequence_of w.body.items) s) (turning enters left t ls w)
+pub once_more : CallEffect → ℕ → ℕ → Levels → lowered.Truth → List Instruction → MachineState → MachineProgress
+once_more enters zero t ls w xs s = stopped TurnBound s.output
+once_more enters (suc left) t ls w xs s = continue_with (execute_all enters t ls (sequence_of xs) s) (turning enters left t ls w xs)
 
-turning-goes : (enters : CallEffect) (left t : ℕ) (ls : Levels) (w : WhileLoop) (s : MachineState) → turning enters left t ls w s ≡ choose s (truth ls s.cells (truth_of w.condition)) (once_more enters left t ls w) running
+turning-goes : (enters : CallEffect) (left t : ℕ) (ls : Levels) (w : lowered.Truth) (xs : List Instruction) (s : MachineState) → turning enters left t ls w xs s ≡ choose s (truth ls s.cells w) (once_more enters left t ls w xs) running
 unfolding once_more
-turning-goes enters zero t ls w s = refl
-turning-goes enters (suc left) t ls w s = refl
+turning-goes enters zero t ls w xs s = refl
+turning-goes enters (suc left) t ls w xs s = refl
 
-once-none : (enters : CallEffect) (left t : ℕ) (ls : Levels) (w : WhileLoop) (s : MachineState) → left ≡ 0 → once_more enters left t ls w s ≡ stopped TurnBound s.output
+once-none : (enters : CallEffect) (left t : ℕ) (ls : Levels) (w : lowered.Truth) (xs : List Instruction) (s : MachineState) → left ≡ 0 → once_more enters left t ls w xs s ≡ stopped TurnBound s.output
 unfolding once_more
-once-none enters left t ls w s e = ap (λ left. once_more enters left t ls w s) e
+once-none enters left t ls w xs s e = ap (λ left. once_more enters left t ls w xs s) e
 
 one_less : (n : ℕ) → n ≢ 0 → n ≡ suc (n - 1)
 one_less zero h = absurd (h refl)
 one_less (suc n) h = omega arith
 
-once-more : (enters : CallEffect) (left t : ℕ) (ls : Levels) (w : WhileLoop) (s : MachineState) → left ≢ 0 → once_more enters left t ls w s ≡ continue_with (execute_all enters t ls (sequence_of w.body.items) s) (turning enters (left - 1) t ls w)
+once-more : (enters : CallEffect) (left t : ℕ) (ls : Levels) (w : lowered.Truth) (xs : List Instruction) (s : MachineState) → left ≢ 0 → once_more enters left t ls w xs s ≡ continue_with (execute_all enters t ls (sequence_of xs) s) (turning enters (left - 1) t ls w xs)
 unfolding once_more
-once-more enters left t ls w s e = ap (λ left. once_more enters left t ls w s) (one_less left e)
+once-more enters left t ls w xs s e = ap (λ left. once_more enters left t ls w xs s) (one_less left e)
 
-while-chosen : {post : Post} {start now : Machine} {t : ℕ} {ls : Levels} {w : WhileLoop} {left : ℕ} (o : StepResult Bool) → InWhile post start now t ls w left → o ≡ truth ls now.cells.items (truth_of w.condition)
-    → (enters : CallEffect) → Performs post enters → execute enters t ls (while_of w) (state_of start) ≡ choose (state_of now) o (once_more enters left t ls w) running
-while-chosen {now = now} {t = t} {ls = ls} {w = w} {left = left} o c h enters p = c.so_far enters p ∙ turning-goes enters left t ls w (state_of now) ∙ ap (λ o. choose (state_of now) o (once_more enters left t ls w) running) (sym h)
+while-chosen : {post : Post} {start now : Machine} {t : ℕ} {ls : Levels} {w : lowered.Truth} {xs : List Instruction} {left : ℕ} (o : StepResult Bool) → InWhile post start now t ls w xs left → o ≡ truth ls now.cells.items w
+    → (enters : CallEffect) → Performs post enters → execute enters t ls (lowered.while_loop w (sequence_of xs)) (state_of start) ≡ choose (state_of now) o (once_more enters left t ls w xs) running
+while-chosen {now = now} {t = t} {ls = ls} {w = w} {xs = xs} {left = left} o c h enters p = c.so_far enters p ∙ turning-goes enters left t ls w xs (state_of now) ∙ ap (λ o. choose (state_of now) o (once_more enters left t ls w xs) running) (sym h)
 
-pub while_fails : {post : Post} {start now : Machine} {t : ℕ} {ls : Levels} {w : WhileLoop} {left : ℕ} (e : Ending) → InWhile post start now t ls w left → ends (end_of e) ≡ truth ls now.cells.items (truth_of w.condition)
-    → EndsRun post e start now (executed t ls (while_of w))
+pub while_fails : {post : Post} {start now : Machine} {t : ℕ} {ls : Levels} {w : lowered.Truth} {xs : List Instruction} {left : ℕ} (e : Ending) → InWhile post start now t ls w xs left → ends (end_of e) ≡ truth ls now.cells.items w
+    → EndsRun post e start now (executed t ls (lowered.while_loop w (sequence_of xs)))
 while_fails e c h = while-chosen (ends (end_of e)) c h
 
-pub while_ends : {post : Post} {start now : Machine} {t : ℕ} {ls : Levels} {w : WhileLoop} {left : ℕ} (u : Unit {0}) → InWhile post start now t ls w left → gives false ≡ truth ls now.cells.items (truth_of w.condition)
-    → MachineDoes post (Ok u) start now (executed t ls (while_of w))
+pub while_ends : {post : Post} {start now : Machine} {t : ℕ} {ls : Levels} {w : lowered.Truth} {xs : List Instruction} {left : ℕ} (u : Unit {0}) → InWhile post start now t ls w xs left → gives false ≡ truth ls now.cells.items w
+    → MachineDoes post (Ok u) start now (executed t ls (lowered.while_loop w (sequence_of xs)))
 while_ends u c h = record { as_defined = while-chosen (gives false) c h }
 
-pub while_bound : {post : Post} {start now : Machine} {t : ℕ} {ls : Levels} {w : WhileLoop} {left : ℕ} → InWhile post start now t ls w left → gives true ≡ truth ls now.cells.items (truth_of w.condition) → left ≡ 0
-    → MachineDoes post (Err stop.TurnBound) start now (executed t ls (while_of w))
-while_bound {now = now} {t = t} {ls = ls} {w = w} {left = left} c h e = record { as_defined = λ enters p. while-chosen (gives true) c h enters p ∙ once-none enters left t ls w (state_of now) e }
+pub while_bound : {post : Post} {start now : Machine} {t : ℕ} {ls : Levels} {w : lowered.Truth} {xs : List Instruction} {left : ℕ} → InWhile post start now t ls w xs left → gives true ≡ truth ls now.cells.items w → left ≡ 0
+    → MachineDoes post (Err stop.TurnBound) start now (executed t ls (lowered.while_loop w (sequence_of xs)))
+while_bound {now = now} {t = t} {ls = ls} {w = w} {xs = xs} {left = left} c h e = record { as_defined = λ enters p. while-chosen (gives true) c h enters p ∙ once-none enters left t ls w xs (state_of now) e }
 
-pub while_on : {post : Post} {start now m : Machine} {t : ℕ} {ls : Levels} {w : WhileLoop} {left : ℕ} (u : Unit {0}) (ss : List Instruction) → InWhile post start now t ls w left → gives true ≡ truth ls now.cells.items (truth_of w.condition) → left ≢ 0
-    → ss ≡ w.body.items → MachineDoes post (Ok u) now m (executed_all t ls (sequence_of ss)) → InWhile post start m t ls w (left - 1)
-while_on {now = now} {t = t} {ls = ls} {w = w} {left = left} u ss c h e same d = record {
-  so_far = λ enters p. while-chosen (gives true) c h enters p ∙ once-more enters left t ls w (state_of now) e
-      ∙ ap (λ q. continue_with q (turning enters (left - 1) t ls w)) (ap (λ ss. execute_all enters t ls (sequence_of ss) (state_of now)) (sym same) ∙ d.as_defined enters p);
+pub while_on : {post : Post} {start now m : Machine} {t : ℕ} {ls : Levels} {w : lowered.Truth} {xs : List Instruction} {left : ℕ} (u : Unit {0}) (ss : List Instruction) → InWhile post start now t ls w xs left → gives true ≡ truth ls now.cells.items w → left ≢ 0
+    → ss ≡ xs → MachineDoes post (Ok u) now m (executed_all t ls (sequence_of ss)) → InWhile post start m t ls w xs (left - 1)
+while_on {now = now} {t = t} {ls = ls} {w = w} {xs = xs} {left = left} u ss c h e same d = record {
+  so_far = λ enters p. while-chosen (gives true) c h enters p ∙ once-more enters left t ls w xs (state_of now) e
+      ∙ ap (λ q. continue_with q (turning enters (left - 1) t ls w xs)) (ap (λ ss. execute_all enters t ls (sequence_of ss) (state_of now)) (sym same) ∙ d.as_defined enters p);
 }
 
-pub while_body_fails : {post : Post} {start now m : Machine} {t : ℕ} {ls : Levels} {w : WhileLoop} {left : ℕ} (x : Stop) (ss : List Instruction) → InWhile post start now t ls w left → gives true ≡ truth ls now.cells.items (truth_of w.condition) → left ≢ 0
-    → ss ≡ w.body.items → MachineDoes post (Err x) now m (executed_all t ls (sequence_of ss)) → MachineDoes post (Err x) start m (executed t ls (while_of w))
-while_body_fails {now = now} {m = m} {t = t} {ls = ls} {w = w} {left = left} x ss c h e same d = record {
+pub while_body_fails : {post : Post} {start now m : Machine} {t : ℕ} {ls : Levels} {w : lowered.Truth} {xs : List Instruction} {left : ℕ} (x : Stop) (ss : List Instruction) → InWhile post start now t ls w xs left → gives true ≡ truth ls now.cells.items w → left ≢ 0
+    → ss ≡ xs → MachineDoes post (Err x) now m (executed_all t ls (sequence_of ss)) → MachineDoes post (Err x) start m (executed t ls (lowered.while_loop w (sequence_of xs)))
+while_body_fails {now = now} {m = m} {t = t} {ls = ls} {w = w} {xs = xs} {left = left} x ss c h e same d = record {
   as_defined = λ enters p.
-      subst (MachineSteps (Err x) m) (sym (while-chosen (gives true) c h enters p ∙ once-more enters left t ls w (state_of now) e
-      ∙ ap (λ q. continue_with q (turning enters (left - 1) t ls w)) (ap (λ ss. execute_all enters t ls (sequence_of ss) (state_of now)) (sym same))))
-      (failed_then x m (execute_all enters t ls (sequence_of ss) (state_of now)) (turning enters (left - 1) t ls w) (d.as_defined enters p));
+      subst (MachineSteps (Err x) m) (sym (while-chosen (gives true) c h enters p ∙ once-more enters left t ls w xs (state_of now) e
+      ∙ ap (λ q. continue_with q (turning enters (left - 1) t ls w xs)) (ap (λ ss. execute_all enters t ls (sequence_of ss) (state_of now)) (sym same))))
+      (failed_then x m (execute_all enters t ls (sequence_of ss) (state_of now)) (turning enters (left - 1) t ls w xs) (d.as_defined enters p));
 }
+
+-- the statements of a counting loop: some, and one after them
+
+continued_running : (p : MachineProgress) (f : MachineState → MachineProgress) → ((s : MachineState) → f s ≡ running s) → continue_with p f ≡ p
+continued_running (running s) f h = h s
+continued_running (stopped e out) f h = refl
+continued_running no_room f h = refl
+
+continued_twice : (p : MachineProgress) (f g k : MachineState → MachineProgress) → ((s : MachineState) → f s ≡ continue_with (g s) k) → continue_with p f ≡ continue_with (continue_with p g) k
+continued_twice (running s) f g k h = h s
+continued_twice (stopped e out) f g k h = refl
+continued_twice no_room f g k h = refl
+
+all-after : (enters : CallEffect) (t : ℕ) (ls : Levels) (xs : List Instruction) (x : Instruction) (s : MachineState)
+    → execute_all enters t ls (sequence_of (xs ++ x ∷ [])) s ≡ continue_with (execute_all enters t ls (sequence_of xs) s) (execute enters t ls (statement_of x))
+unfolding execute
+all-after enters t ls [] x s = continued_running (execute enters t ls (statement_of x) s) _ (λ s. refl)
+all-after enters t ls (y ∷ ys) x s = continued_twice (execute enters t ls (statement_of y) s) _ _ (execute enters t ls (statement_of x)) (all-after enters t ls ys x)
+
+pub then_last : {post : Post} {r : Result (Unit {0}) Stop} {start now m : Machine} (t : ℕ) (ls : Levels) (xs : List Instruction) (u : Unit {0}) (x : Instruction) → MachineDoes post (Ok u) start now (executed_all t ls (sequence_of xs))
+    → MachineDoes post r now m (executed t ls (statement_of x)) → MachineDoes post r start m (executed_all t ls (sequence_of (xs ++ x ∷ [])))
+then_last {r = r} {start = start} {now = now} {m = m} t ls xs u x d e = record {
+  as_defined = λ enters p.
+      subst (MachineSteps r m) (sym (all-after enters t ls xs x (state_of start) ∙ ap (λ q. continue_with q (execute enters t ls (statement_of x))) (d.as_defined enters p))) (e.as_defined enters p);
+}
+
+pub before_last : {post : Post} {start m : Machine} (t : ℕ) (ls : Levels) (xs : List Instruction) (e : Stop) (x : Instruction) → MachineDoes post (Err e) start m (executed_all t ls (sequence_of xs))
+    → MachineDoes post (Err e) start m (executed_all t ls (sequence_of (xs ++ x ∷ [])))
+before_last {start = start} {m = m} t ls xs e x d = record {
+  as_defined = λ enters p.
+      subst (MachineSteps (Err e) m) (sym (all-after enters t ls xs x (state_of start))) (failed_then e m (execute_all enters t ls (sequence_of xs) (state_of start)) (execute enters t ls (statement_of x)) (d.as_defined enters p));
+}
+
+pub steps_by : (m : Machine) (r : Result (Unit {0}) Stop) (p : MachineProgress) (e : Ending) → (y : Stop) × (r ≡ Err y) × (end_at y ≡ Some (end_of e)) → stopped (end_of e) (items_out m.output.items) ≡ p → MachineSteps r m p
+steps_by m r p e q h = subst (λ r. MachineSteps r m p) (sym q.1) (subst (λ o. StopsRun o m p) (sym q.2) (sym h))
+
+pub steps_as : (enters : CallEffect) (t : ℕ) (ls : Levels) (v : Variable) (r : Result (Unit {0}) Stop) (m : Machine) (s : MachineState) {a b : ℤ} → a ≡ b → MachineSteps r m (execute enters t ls (increases v a) s) → MachineSteps r m (execute enters t ls (increases v b) s)
+steps_as enters t ls v r m s e h = subst (λ n. MachineSteps r m (execute enters t ls (increases v n) s)) e h
+
+pub loop_as : {post : Post} {r : Result (Unit {0}) Stop} {m m' : Machine} (t : ℕ) (ls : Levels) (v u : Variable) (xs : List Instruction) {n n' b b' : ℤ} → n ≡ n' → b ≡ b'
+    → MachineDoes post r m m' (executed t ls (lowered.while_loop (compared_by relation.Less v (lowered.literal n)) (sequence_of (xs ++ Increase u b ∷ []))))
+    → MachineDoes post r m m' (executed t ls (lowered.while_loop (compared_by relation.Less v (lowered.literal n')) (sequence_of (xs ++ Increase u b' ∷ []))))
+loop_as {post = post} {r = r} {m = m} {m' = m'} t ls v u xs {n = n} {b' = b'} e f h =
+    subst (λ n. MachineDoes post r m m' (executed t ls (lowered.while_loop (compared_by relation.Less v (lowered.literal n)) (sequence_of (xs ++ Increase u b' ∷ []))))) e
+    (subst (λ b. MachineDoes post r m m' (executed t ls (lowered.while_loop (compared_by relation.Less v (lowered.literal n)) (sequence_of (xs ++ Increase u b ∷ []))))) f h)
+
+-- a variable at a known address that is compared with a literal
+pub compared_at : (ls : Levels) (cells : List ℤ) (v : Variable) (a : ℕ) (n : ℤ) (b : Bool) → address ls cells (variable_of v) ≡ gives a → b ≡ compare lowered.less (cell_at cells a) n → gives b ≡ truth ls cells (compared_by relation.Less v (lowered.literal n))
+compared_at ls cells v a n b h e = ap gives e ∙ ap (λ o. (o >>= (λ a. gives (cell_at cells a))) >>= (λ x. gives (compare lowered.less x n))) (sym h)
 
 -- REPEAT
 

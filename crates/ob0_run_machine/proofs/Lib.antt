@@ -5,3 +5,4 @@ pub mod InOrder
 pub mod Viewed
 pub mod Executing
 pub mod Returning
+pub mod Sums

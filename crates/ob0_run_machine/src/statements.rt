@@ -1,18 +1,20 @@
 //! Statements. The effect of calls is an argument.
 
-ghost use Rattle.std.specs.Prelude.{◌≡◌, ℕ};
+ghost use Rattle.std.specs.Prelude.{◌≡◌, ◌++◌, ◌∷◌, [], List, ℕ, ℤ};
 ghost use Rattle.ob0_run_machine.specs.Answers.{outcome_of_result};
-ghost use Rattle.ob0_run_machine.specs.Evaluation.{truth};
+ghost use Rattle.ob0_run_machine.specs.Evaluation.{Levels, address as address_of, gives, truth};
+ghost use Rattle.ob0_run_machine.specs.declared.code.Comparator.TheVariants.{Less};
+ghost use Rattle.ob0_run_machine.specs.declared.code.Instruction.{Increase};
 ghost use Rattle.ob0_run_machine.specs.Execution.{CallEffect, execute};
 ghost use Rattle.ob0_run_machine.specs.Levels.{levels_of};
 ghost use Rattle.ob0_run_machine.specs.Lowered as lowered;
 ghost use Rattle.ob0_run_machine.specs.Machines.{MachineDoes, MachineSteps, entering, executed, executed_all, executed_others, after_step, state_of};
-ghost use Rattle.ob0_run_machine.specs.View.{applied, branches_in, call_of, chained_in, increases, number_of, others_in, otherwise_in, place_of, repeat_of, row_of, sequence_of, statement_of, truth_of, variable_of, while_of};
+ghost use Rattle.ob0_run_machine.specs.View.{applied, branches_in, call_of, chained_in, compared_by, increases, number_of, others_in, otherwise_in, place_of, repeat_of, row_of, sequence_of, statement_of, truth_of, variable_of, while_of};
 
 use crate::addresses::Addresses;
 use crate::code::{
-    Chain, Conditional, Instruction, Link, Number, Place, ProcedureCall, RepeatLoop, Row, Truth,
-    Variable, WhileLoop,
+    Chain, Comparator, Conditional, Instruction, Link, Number, Place, ProcedureCall, RepeatLoop,
+    Row, Truth, Variable, WhileLoop,
 };
 use crate::ending::{Ending, Stop};
 use crate::evaluating::{
@@ -20,7 +22,7 @@ use crate::evaluating::{
 };
 use crate::level::{Level, outside};
 use crate::machine::{Item, Machine, copy, store};
-use crate::operators::{add, as_cell};
+use crate::operators::{add, as_cell, compare};
 use crate::passing::pass_all;
 
 /// Assigns a number to any place. It isn't inlined, so that `statement` is small enough to be inlined.
@@ -81,8 +83,21 @@ fn store_chain(
     Ok(())
 }
 
-/// Adds a number to a variable.
+/// Adds a number to the variable at an address.
 #[tactic(auto, unfolding(crate::specs::Execution::execute))]
+#[inline(always)]
+fn increase_at(address: usize, by: i32, machine: &mut Machine<'_>) -> Result<(), Ending>
+    ensures { (enters : CallEffect) (t : ℕ) (ls : Levels) (v : Variable)
+        → address_of ls machine.old.cells.items (variable_of v) ≡ gives address
+        → after_step result machine.new
+        ≡ execute enters t ls (increases v by) (state_of machine.old) }
+{
+    let v = add(cell_at(machine.cells.as_slice(), address), by)?;
+    store(&mut machine.cells, address, v);
+    Ok(())
+}
+
+/// Adds a number to a variable.
 #[inline(always)]
 fn increase(
     variable: Variable,
@@ -94,10 +109,7 @@ fn increase(
         → after_step result machine.new
         ≡ execute enters t (levels_of level.now) (increases variable by) (state_of machine.old) }
 {
-    let a = variable_at(variable, level);
-    let v = add(cell_at(machine.cells.as_slice(), a), by)?;
-    store(&mut machine.cells, a, v);
-    Ok(())
+    increase_at(variable_at(variable, level), by, machine)
 }
 
 /// Assigns the result of an operation on a variable to it. It isn't inlined for the same reason.
@@ -412,10 +424,122 @@ fn other_branches<F: Fn(&mut Machine<'_>, usize, &Level<'_>) -> Result<(), Stop>
     run_unless_empty(&i.otherwise, level, turns, machine, enter)
 }
 
+/// Adds a number to the variable at an address, as a step of a run.
+#[tactic(auto, unfolding(crate::specs::Execution::execute))]
+#[inline(always)]
+fn count(address: usize, by: i32, machine: &mut Machine<'_>) -> Result<(), Stop>
+    ensures { (enters : CallEffect) (t : ℕ) (ls : Levels) (v : Variable)
+        → address_of ls machine.old.cells.items (variable_of v) ≡ gives address
+        → MachineSteps result machine.new
+        (execute enters t ls (increases v by) (state_of machine.old)) }
+{
+    Ok(increase_at(address, by, machine)?)
+}
+
+/// Returns whether the variable at an address is less than a number.
+#[tactic(auto, using(crate::proofs::Executing::compared_at))]
+#[inline(always)]
+fn is_below(address: usize, limit: i32, machine: &Machine<'_>) -> bool
+    ensures { (ls : Levels) (v : Variable)
+        → address_of ls machine.now.cells.items (variable_of v) ≡ gives address
+        → gives result
+        ≡ truth ls machine.now.cells.items (compared_by Less v (lowered.literal limit)) }
+{
+    compare(
+        Comparator::Less,
+        cell_at(machine.cells.as_slice(), address),
+        limit,
+    )
+}
+
+/// Runs the statements of a counting loop: some, and then the one that adds a number to the variable at an address.
+#[inline(always)]
+#[cycle(execution)]
+fn run_counted<F: Fn(&mut Machine<'_>, usize, &Level<'_>) -> Result<(), Stop>>(
+    statements: &[Instruction],
+    address: usize,
+    by: i32,
+    level: &Level<'_>,
+    turns: u32,
+    machine: &mut Machine<'_>,
+    enter: &F,
+) -> Result<(), Stop>
+    requires { F.IsAlwaysCallable enter.now }
+    ensures { (v : Variable)
+        → ((cells : List ℤ)
+        → address_of (levels_of level.now) cells (variable_of v) ≡ gives address)
+        → MachineDoes (F.post enter.now) result machine.old machine.new
+        (executed_all turns (levels_of level.now)
+        (sequence_of (statements.now ++ Increase v by ∷ []))) }
+{
+    run_inlined(statements, level, turns, machine, enter)?;
+    count(address, by, machine)
+}
+
+/// Runs a counting loop: a WHILE whose condition compares a variable with a literal, and whose last statement adds a
+/// number to a variable. The addresses of both variables are found once.
+#[inline(always)]
+#[cycle(execution)]
+fn run_counting<F: Fn(&mut Machine<'_>, usize, &Level<'_>) -> Result<(), Stop>>(
+    variable: Variable,
+    limit: i32,
+    statements: &[Instruction],
+    increased: Variable,
+    by: i32,
+    level: &Level<'_>,
+    turns: u32,
+    machine: &mut Machine<'_>,
+    enter: &F,
+) -> Result<(), Stop>
+    requires { F.IsAlwaysCallable enter.now }
+    ensures { MachineDoes (F.post enter.now) result machine.old machine.new
+        (executed turns (levels_of level.now) (lowered.while_loop
+        (compared_by Less variable (lowered.literal limit))
+        (sequence_of (statements.now ++ Increase increased by ∷ [])))) }
+{
+    let compared = variable_at(variable, level);
+    let changed = variable_at(increased, level);
+    let mut left = turns;
+    'again: loop {
+        if !is_below(compared, limit, machine) {
+            return Ok(());
+        }
+        if left == 0 {
+            return Err(Stop::TurnBound);
+        }
+        left -= 1;
+        run_counted(statements, changed, by, level, turns, machine, enter)?;
+    }
+}
+
 /// Runs a WHILE. It ends the run with TurnBound if the condition is TRUE after as many iterations as it may make.
 #[inline(never)]
 #[cycle(execution)]
 fn run_while<F: Fn(&mut Machine<'_>, usize, &Level<'_>) -> Result<(), Stop>>(
+    w: &WhileLoop,
+    level: &Level<'_>,
+    turns: u32,
+    machine: &mut Machine<'_>,
+    enter: &F,
+) -> Result<(), Stop>
+    requires { F.IsAlwaysCallable enter.now }
+    ensures { MachineDoes (F.post enter.now) result machine.old machine.new
+        (executed turns (levels_of level.now) (while_of w.now)) }
+{
+    if let Truth::LessThanLiteral(v, limit) = &w.condition
+        && let Some((Instruction::Increase(u, by), statements)) = w.body.as_slice().split_last()
+    {
+        return run_counting(
+            *v, *limit, statements, *u, *by, level, turns, machine, enter,
+        );
+    }
+    run_any_while(w, level, turns, machine, enter)
+}
+
+/// Runs a WHILE of any form.
+#[inline(always)]
+#[cycle(execution)]
+fn run_any_while<F: Fn(&mut Machine<'_>, usize, &Level<'_>) -> Result<(), Stop>>(
     w: &WhileLoop,
     level: &Level<'_>,
     turns: u32,

@@ -1,8 +1,10 @@
-use Rattle.std.proofs.Common.{arith, sym, ap, ◌∙◌}
+use Rattle.std.proofs.Math.Facts.{to_z-of_z}
+use Rattle.std.proofs.Common.{arith, refl, sym, ap, ◌∙◌}
+use Rattle.ob0_run_machine.specs.declared.code.Instruction.{Increase}
 use Rattle.std.proofs.lemmas.Result.{err_from_is_err_and}
 use Rattle.ob0_run_machine.specs.Levels.{levels_of}
 use Rattle.ob0_run_machine.specs.View.{statement_of}
-use Rattle.ob0_run_machine.proofs.Executing.{branch_taken, branches_begin, does_statement, ending_by, branches_end, branches_fail, branches_on, if_fails, if_passed, if_taken, leaving, repeat_begins, repeat_body_fails, repeat_bound, repeat_ends, repeat_fails, repeat_on, sequence_begins, sequence_ends, sequence_fails, sequence_on, settled, turn_made, while_begins, while_body_fails, while_bound, while_ends, while_fails, while_on}
+use Rattle.ob0_run_machine.proofs.Executing.{before_last, branch_taken, branches_begin, does_statement, ending_by, branches_end, branches_fail, branches_on, if_fails, if_passed, if_taken, leaving, loop_as, repeat_begins, repeat_body_fails, repeat_bound, repeat_ends, repeat_fails, repeat_on, sequence_begins, sequence_ends, sequence_fails, sequence_on, settled, steps_as, then_last, turn_made, while_begins, while_body_fails, while_bound, while_ends, while_fails, while_on}
 use Rattle.ob0_run_machine.proofs.Viewed.{if_made, repeat_made, while_made}
 use Rattle.ob0_run_machine.proofs.statements.+execution.Goals as goal
 
@@ -38,24 +40,24 @@ other_branches-loop-branch-preserved g t c =
 pub other_branches-returns : goal.other_branches-returns
 other_branches-returns g t c = branches_end c.run_unless_empty.result _ c.loop-branch.invariant c.loop-branch-test.false c.deref-2.ensures.value c.run_unless_empty.ensures
 
-pub run_while-loop-left-init : goal.run_while-loop-left-init
-run_while-loop-left-init g t c = while_begins
+pub run_any_while-loop-left-init : goal.run_any_while-loop-left-init
+run_any_while-loop-left-init g t c = while_begins
 
-pub run_while-returns-in_err-evaluate_condition : goal.run_while-returns-in_err-evaluate_condition
-run_while-returns-in_err-evaluate_condition g t c = ending_by c.in_err-evaluate_condition.field-0.0 (err_from_is_err_and c.from_residual.result c.from_residual.ensures.1)
+pub run_any_while-returns-in_err-evaluate_condition : goal.run_any_while-returns-in_err-evaluate_condition
+run_any_while-returns-in_err-evaluate_condition g t c = ending_by c.in_err-evaluate_condition.field-0.0 (err_from_is_err_and c.from_residual.result c.from_residual.ensures.1)
     (while_fails c.in_err-evaluate_condition.field-0.0 c.loop-left.invariant c.in_err-evaluate_condition.ensures)
 
-pub run_while-returns-then-not-branch : goal.run_while-returns-then-not-branch
-run_while-returns-then-not-branch g t c = while_ends tt c.loop-left.invariant (settled c.in_ok-evaluate_condition.ensures c.if-not-branch.true)
+pub run_any_while-returns-then-not-branch : goal.run_any_while-returns-then-not-branch
+run_any_while-returns-then-not-branch g t c = while_ends tt c.loop-left.invariant (settled c.in_ok-evaluate_condition.ensures c.if-not-branch.true)
 
-pub run_while-returns-then-left-eq0 : goal.run_while-returns-then-left-eq0
-run_while-returns-then-left-eq0 g t c = while_bound c.loop-left.invariant (settled c.in_ok-evaluate_condition.ensures c.if-not-branch.false) c.if-left-eq0.true
+pub run_any_while-returns-then-left-eq0 : goal.run_any_while-returns-then-left-eq0
+run_any_while-returns-then-left-eq0 g t c = while_bound c.loop-left.invariant (settled c.in_ok-evaluate_condition.ensures c.if-not-branch.false) c.if-left-eq0.true
 
-pub run_while-loop-left-preserved : goal.run_while-loop-left-preserved
-run_while-loop-left-preserved g t c = while_on c.in_ok-run_inlined.field-0 _ c.loop-left.invariant (settled c.in_ok-evaluate_condition.ensures c.if-not-branch.false) c.if-left-eq0.false c.deref.ensures.value c.in_ok-run_inlined.ensures
+pub run_any_while-loop-left-preserved : goal.run_any_while-loop-left-preserved
+run_any_while-loop-left-preserved g t c = while_on c.in_ok-run_inlined.field-0 _ c.loop-left.invariant (settled c.in_ok-evaluate_condition.ensures c.if-not-branch.false) c.if-left-eq0.false c.deref.ensures.value c.in_ok-run_inlined.ensures
 
-pub run_while-returns-in_err-run_inlined : goal.run_while-returns-in_err-run_inlined
-run_while-returns-in_err-run_inlined g t c = leaving (err_from_is_err_and c.from_residual-in_err-run_inlined.result c.from_residual-in_err-run_inlined.ensures.1)
+pub run_any_while-returns-in_err-run_inlined : goal.run_any_while-returns-in_err-run_inlined
+run_any_while-returns-in_err-run_inlined g t c = leaving (err_from_is_err_and c.from_residual-in_err-run_inlined.result c.from_residual-in_err-run_inlined.ensures.1)
     (while_body_fails c.in_err-run_inlined.field-0.0 _ c.loop-left.invariant (settled c.in_ok-evaluate_condition.ensures c.if-not-branch.false) c.if-left-eq0.false c.deref.ensures.value c.in_err-run_inlined.ensures)
 
 pub run_inlined-loop-s-init : goal.run_inlined-loop-s-init
@@ -105,3 +107,33 @@ run_repeat-returns-then-further-eq0 g t c =
 pub run_repeat-loop-machine-preserved : goal.run_repeat-loop-machine-preserved
 run_repeat-loop-machine-preserved g t c =
     repeat_on (turn_made c.in_ok-run_inlined.field-0 _ c.loop-machine.invariant c.deref.ensures.value c.in_ok-run_inlined.ensures) (settled c.in_ok-evaluate_condition.ensures c.if-branch.false) c.if-further-eq0.false
+
+pub run_counted-returns-in_err-run_inlined : goal.run_counted-returns-in_err-run_inlined
+run_counted-returns-in_err-run_inlined g t c = λ v found. leaving (err_from_is_err_and c.from_residual.result c.from_residual.ensures.1)
+    (before_last c.args.turns (levels_of c.args.level.now) c.args.statements.now c.in_err-run_inlined.field-0.0 (Increase v c.args.by) c.in_err-run_inlined.ensures)
+
+pub run_counted-returns : goal.run_counted-returns
+run_counted-returns g t c = λ v found. then_last c.args.turns (levels_of c.args.level.now) c.args.statements.now c.in_ok-run_inlined.field-0 (Increase v c.args.by) c.in_ok-run_inlined.ensures
+    (record { as_defined = λ enters p. steps_as enters c.args.turns (levels_of c.args.level.now) v c.count.result _ _ (to_z-of_z c.ranges.by) (c.count.ensures enters c.args.turns (levels_of c.args.level.now) v (found _)) })
+
+pub run_counting-again-init : goal.run_counting-again-init
+run_counting-again-init g t c = while_begins
+
+pub run_counting-returns-then-not-is_below : goal.run_counting-returns-then-not-is_below
+run_counting-returns-then-not-is_below g t c = loop_as c.args.turns (levels_of c.args.level.now) c.args.variable c.args.increased c.args.statements.now (to_z-of_z c.ranges.limit) (to_z-of_z c.ranges.by)
+    (while_ends tt c.again.invariant (settled (c.is_below.ensures (levels_of c.args.level.now) c.args.variable (c.variable_at-compared.ensures _)) c.if-not-is_below.true))
+
+pub run_counting-returns-then-left-eq0 : goal.run_counting-returns-then-left-eq0
+run_counting-returns-then-left-eq0 g t c = loop_as c.args.turns (levels_of c.args.level.now) c.args.variable c.args.increased c.args.statements.now (to_z-of_z c.ranges.limit) (to_z-of_z c.ranges.by)
+    (while_bound c.again.invariant (settled (c.is_below.ensures (levels_of c.args.level.now) c.args.variable (c.variable_at-compared.ensures _)) c.if-not-is_below.false) c.if-left-eq0.true)
+
+pub run_counting-again-preserved : goal.run_counting-again-preserved
+run_counting-again-preserved g t c = while_on c.in_ok-run_counted.field-0 _ c.again.invariant
+    (settled (c.is_below.ensures (levels_of c.args.level.now) c.args.variable (c.variable_at-compared.ensures _)) c.if-not-is_below.false) c.if-left-eq0.false refl
+    (c.in_ok-run_counted.ensures c.args.increased (λ cells. c.variable_at-changed.ensures cells))
+
+pub run_counting-returns-in_err-run_counted : goal.run_counting-returns-in_err-run_counted
+run_counting-returns-in_err-run_counted g t c = leaving (err_from_is_err_and c.from_residual.result c.from_residual.ensures.1)
+    (loop_as c.args.turns (levels_of c.args.level.now) c.args.variable c.args.increased c.args.statements.now (to_z-of_z c.ranges.limit) (to_z-of_z c.ranges.by) (while_body_fails c.in_err-run_counted.field-0.0 _ c.again.invariant
+    (settled (c.is_below.ensures (levels_of c.args.level.now) c.args.variable (c.variable_at-compared.ensures _)) c.if-not-is_below.false) c.if-left-eq0.false refl
+    (c.in_err-run_counted.ensures c.args.increased (λ cells. c.variable_at-changed.ensures cells))))

@@ -1,0 +1,26 @@
+-- Sums of two numbers of 32 bits, computed in 64 bits.
+use Rattle.std.proofs.Common.{◌≡◌, ℕ, suc, arith, ℤ, pos, negsuc, ◌+ℤ◌, ◌-◌, ◌≤◌, ◌≤ℤ◌, ◌<◌, FitsSigned, w32, w64, of_z, subst}
+use Rattle.std.proofs.lemmas.Int.{ints}
+
+-- a number that isn't far below 0 has no more than 32 bits as an unsigned one only if it is there
+near : (z : ℤ) → negsuc 4294967295 ≤ℤ z → of_z w64 z ≤ 4294967295 → (pos 0 ≤ℤ z) × (z ≤ℤ pos 4294967295)
+near (pos n) low few = (omega (arith, ints), omega (arith, ints, few))
+near (negsuc n) low few = let large : 18446744073709551616 - suc n ≤ 4294967295 = few in absurd (omega (arith, ints, large, low))
+
+fits : (z : ℤ) → (pos 0 ≤ℤ (z +ℤ pos 2147483648)) × ((z +ℤ pos 2147483648) ≤ℤ pos 4294967295) → FitsSigned w32 z
+fits (pos n) h = let small : n < 2147483648 = omega (arith, ints, h.1) in record { sfits = small }
+fits (negsuc n) h = let small : n < 2147483648 = omega (arith, ints, h.0) in record { sfits = small }
+
+bounded : (z : ℤ) → negsuc 8589934591 ≤ℤ z → z ≤ℤ pos 8589934591 → FitsSigned w64 z
+bounded (pos n) low high = let small : n < 9223372036854775808 = omega (arith, ints, high) in record { sfits = small }
+bounded (negsuc n) low high = let small : n < 9223372036854775808 = omega (arith, ints, low) in record { sfits = small }
+
+-- A sum of two numbers has 32 bits if its distance from the least number, as an unsigned number, has.
+pub fits_by : (l r x : ℤ) (d : ℕ) → FitsSigned w32 l → FitsSigned w32 r → d ≡ of_z w64 x → x ≡ l +ℤ r +ℤ pos 2147483648 → d ≤ 4294967295 → FitsSigned w32 (l +ℤ r)
+fits_by l r x d a b e is few =
+    let near_least = near (l +ℤ r +ℤ pos 2147483648) (omega (arith, ints, a.sfits, b.sfits)) (subst (λ x. of_z w64 x ≤ 4294967295) is (subst (λ d. d ≤ 4294967295) e few)) in
+    fits (l +ℤ r) near_least
+
+-- The sum of two numbers of 32 bits has 64 bits, and so has its distance from the least number.
+pub wide : (l r : ℤ) → FitsSigned w32 l → FitsSigned w32 r → FitsSigned w64 (l +ℤ r) × FitsSigned w64 (l +ℤ r +ℤ pos 2147483648)
+wide l r a b = (bounded (l +ℤ r) (omega (arith, ints, a.sfits, b.sfits)) (omega (arith, ints, a.sfits, b.sfits)), bounded (l +ℤ r +ℤ pos 2147483648) (omega (arith, ints, a.sfits, b.sfits)) (omega (arith, ints, a.sfits, b.sfits)))
