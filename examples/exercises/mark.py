@@ -169,22 +169,33 @@ def inputs_in(folder: str) -> Dict[str, List[Case]]:
 def call(marking: Marking, words: List[str], given: str = "") -> Ended:
     """Runs the program with these words on this input, under the limits."""
 
+    # (a signal that came while the run is started would leave it running: it waits)
+    mask = signal.pthread_sigmask(signal.SIG_BLOCK, STOPPING)
+
     def limit() -> None:
         """Bounds what a run may write and take. (Its processor time is bounded too, in case this script is killed before it ends.)"""
+        signal.pthread_sigmask(signal.SIG_SETMASK, mask)
         seconds = int(marking.seconds) + 2
         for which, most in ((resource.RLIMIT_FSIZE, MOST_PRINTED), (resource.RLIMIT_DATA, MOST_MEMORY), (resource.RLIMIT_CPU, seconds)):
             hard = resource.getrlimit(which)[1]
             bound = most if hard == resource.RLIM_INFINITY else min(most, hard)
             resource.setrlimit(which, (bound, bound))
 
-    with tempfile.TemporaryFile() as out, tempfile.TemporaryFile() as err:
-        how: Dict[str, Any] = {"stdout": out, "stderr": err, "preexec_fn": limit}
-        status: Optional[int] = None
-        try:
-            status = subprocess.run([marking.program, *words], input=given.encode(), timeout=marking.seconds, check=False, **how).returncode
-        except subprocess.TimeoutExpired:
-            pass
-        return Ended(text_in(out), text_in(err), status)
+    try:
+        with tempfile.TemporaryFile() as out, tempfile.TemporaryFile() as err:
+            how: Dict[str, Any] = {"stdin": subprocess.PIPE, "stdout": out, "stderr": err, "preexec_fn": limit}
+            with subprocess.Popen([marking.program, *words], **how) as process:
+                try:
+                    signal.pthread_sigmask(signal.SIG_SETMASK, mask)
+                    process.communicate(given.encode(), marking.seconds)
+                    status: Optional[int] = process.returncode
+                except subprocess.TimeoutExpired:
+                    status = None
+                finally:
+                    process.kill()
+            return Ended(text_in(out), text_in(err), status)
+    finally:
+        signal.pthread_sigmask(signal.SIG_SETMASK, mask)
 
 
 def text_in(file: IO[bytes]) -> str:
