@@ -339,6 +339,20 @@ def unprinted() -> None:
                 same(marking(room, ["Clock.mod"], file)[::2], (4, b"what was found can't be printed: " + why + b"\n"))
 
 
+# runs a script that gets a signal just after it has started a process
+SIGNALLED = """
+import os, runpy, subprocess, sys
+number = int(sys.argv[1])
+class Signalled(subprocess.Popen):
+    def _execute_child(self, *words):
+        super()._execute_child(*words)
+        os.kill(os.getpid(), number)
+subprocess.Popen = Signalled
+sys.argv = sys.argv[2:]
+runpy.run_path(sys.argv[0], run_name="__main__")
+"""
+
+
 @test("exercises: a signal ends the script, and the module that it runs")
 def signalled() -> None:
     with temporary() as room:
@@ -356,6 +370,13 @@ def signalled() -> None:
             same((process.returncode, err), (-number, b""), "how the script ends")
             holds(not is_running(int(text_of(pid))), f"the module goes on after signal {number}")
             os.unlink(pid)
+            words = ["python3", "-B", "-c", SIGNALLED, str(int(number)), *words[2:]]
+            ran = subprocess.run(words, cwd=room, stdout=subprocess.DEVNULL, stderr=subprocess.PIPE, check=False)
+            same((ran.returncode, ran.stderr), (-number, b""), "how the script ends, if the signal comes while a module is started")
+            time.sleep(0.5)
+            holds(not os.path.exists(pid) or not is_running(int(text_of(pid))), f"the module that was started goes on after signal {number}")
+            if os.path.exists(pid):
+                os.unlink(pid)
 
 
 # Runs a script in which a signal comes as soon as a process has been started, before the script knows it.
