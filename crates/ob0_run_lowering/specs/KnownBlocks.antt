@@ -1,6 +1,6 @@
 -- The bindings of a module's declarations, and the table of its declarations by ordinal.
 -- `BlockDeclared` recurses over the tree: in each environment in which procedures and statements of a block are checked,
--- each binding is of an ordinal, to the object of its declaration. A well-typed module is so (`module-declared`): in its
+-- each binding is of an ordinal, to the object of its declaration. A well-typed module has this (`module-declared`): in its
 -- numbered tree ordinals descend in each environment, so each binding is the one that is found. No other fact about the
 -- order of ordinals is used.
 -- Rule: none; for contracts of lowering.
@@ -22,8 +22,8 @@ AreDeclared objects [] = Unit {0}
 AreDeclared objects (b ∷ env) =
     ((k : ℕ) × (b.0 ≡ declared k) × (objects k ≡ Some b.1)) × AreDeclared objects env
 
--- Holds if `AreDeclared` holds of each environment in which the procedures and statements of a block are checked,
--- and of those of the blocks in it.
+-- Holds if `AreDeclared` holds of each environment in which the procedures and statements of a block, or of a block
+-- in it, are checked.
 abbrev pub BlockDeclared : Objects → TypeEnvironment Label → ℕ → Tree Label block → Type 0
 BlockDeclared objects = BlockHas (AreDeclared objects)
 

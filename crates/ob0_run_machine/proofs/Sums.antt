@@ -1,8 +1,9 @@
--- Sums of two numbers of 32 bits, computed in 64 bits.
+-- Proves when the sum of two numbers of 32 bits, computed in 64 bits, fits in 32 bits.
 use Rattle.std.proofs.Common.{◌≡◌, ℕ, suc, arith, ℤ, pos, negsuc, ◌+ℤ◌, ◌-◌, ◌≤◌, ◌≤ℤ◌, ◌<◌, FitsSigned, w32, w64, of_z, subst}
 use Rattle.std.proofs.lemmas.Int.{ints}
 
--- a number that isn't far below 0 has no more than 32 bits as an unsigned one only if it is there
+-- If a number is at least -2^32 and its unsigned value in 64 bits fits in 32 bits, the number itself
+-- is from 0 to 2^32 - 1.
 near : (z : ℤ) → negsuc 4294967295 ≤ℤ z → of_z w64 z ≤ 4294967295 → (pos 0 ≤ℤ z) × (z ≤ℤ pos 4294967295)
 near (pos n) low few = (omega (arith, ints), omega (arith, ints, few))
 near (negsuc n) low few = let large : 18446744073709551616 - suc n ≤ 4294967295 = few in absurd (omega (arith, ints, large, low))
@@ -15,12 +16,12 @@ bounded : (z : ℤ) → negsuc 8589934591 ≤ℤ z → z ≤ℤ pos 8589934591 �
 bounded (pos n) low high = let small : n < 9223372036854775808 = omega (arith, ints, high) in record { sfits = small }
 bounded (negsuc n) low high = let small : n < 9223372036854775808 = omega (arith, ints, low) in record { sfits = small }
 
--- A sum of two numbers has 32 bits if its distance from the least number, as an unsigned number, has.
+-- A sum fits in 32 bits if its distance from the least number fits in 32 unsigned bits.
 pub fits_by : (l r x : ℤ) (d : ℕ) → FitsSigned w32 l → FitsSigned w32 r → d ≡ of_z w64 x → x ≡ l +ℤ r +ℤ pos 2147483648 → d ≤ 4294967295 → FitsSigned w32 (l +ℤ r)
 fits_by l r x d a b e is few =
     let near_least = near (l +ℤ r +ℤ pos 2147483648) (omega (arith, ints, a.sfits, b.sfits)) (subst (λ x. of_z w64 x ≤ 4294967295) is (subst (λ d. d ≤ 4294967295) e few)) in
     fits (l +ℤ r) near_least
 
--- The sum of two numbers of 32 bits has 64 bits, and so has its distance from the least number.
+-- The sum of two numbers of 32 bits fits in 64 bits, and so does its distance from the least one.
 pub wide : (l r : ℤ) → FitsSigned w32 l → FitsSigned w32 r → FitsSigned w64 (l +ℤ r) × FitsSigned w64 (l +ℤ r +ℤ pos 2147483648)
 wide l r a b = (bounded (l +ℤ r) (omega (arith, ints, a.sfits, b.sfits)) (omega (arith, ints, a.sfits, b.sfits)), bounded (l +ℤ r +ℤ pos 2147483648) (omega (arith, ints, a.sfits, b.sfits)) (omega (arith, ints, a.sfits, b.sfits)))

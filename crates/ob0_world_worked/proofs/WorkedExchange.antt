@@ -1,4 +1,4 @@
--- The worked exchange, turn by turn.
+-- Proves the worked exchange, turn by turn.
 use Rattle.std.proofs.Common.{◌≡◌, ◌∙◌, ℕ, pos, true, List, [], ◌∷◌, Option, Some, None, inl, inr, refl, sym, ap, subst, arith, if◌then◌else◌}
 use Rattle.std.specs.Prelude.{codes, nat_lt, option_and_then, option_map}
 use Rattle.std.specs.FinMap as map_of
@@ -47,7 +47,7 @@ use Rattle.ob0_world_worked.proofs.WorkedAnswers.{inlines_everywhere_in, inlines
 use Rattle.ob0_world_worked.proofs.Json.{content_of, reads_so}
 use Rattle.ob0_world_worked.proofs.WorkedMessages.{actions_read, capabilities_read, change_read, everywhere_edits, here_edits, hover_read, initialize_read, initialized_read, initialized_with, no_hover, no_hover_read, none_read, open_read, requested_actions, sends, shows_none, two_actions, two_actions_read}
 
--- what the editor reads in a content
+-- The editor reads this in the content.
 editor_reads : (of : Data → Option ℕ) (requested : List SentAsk) (d : Data) → IsReadBack d → nat_lt (depth d) 128 ≡ true → read_so of requested (content_of d) ≡ value_read of requested d
 unfolding read_so
 editor_reads of requested d r shallow =
