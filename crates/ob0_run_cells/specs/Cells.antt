@@ -13,7 +13,7 @@ truth_cell true = pos 1
 
 -- the cells of a value
 abbrev mutual
-  -- the cells of a value: one for a number or a truth value, those of all parts for an array or a record
+  -- the cells of a value: one for a number or a truth value, the cells of all parts for an array or a record
   pub cells_of : Value → List ℤ
   cells_of (number n) = n ∷ []
   cells_of (truth b) = truth_cell b ∷ []

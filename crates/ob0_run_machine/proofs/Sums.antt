@@ -22,6 +22,6 @@ fits_by l r x d a b e is few =
     let near_least = near (l +ℤ r +ℤ pos 2147483648) (omega (arith, ints, a.sfits, b.sfits)) (subst (λ x. of_z w64 x ≤ 4294967295) is (subst (λ d. d ≤ 4294967295) e few)) in
     fits (l +ℤ r) near_least
 
--- The sum of two numbers of 32 bits fits in 64 bits, and so does its distance from the least one.
+-- The sum of two numbers of 32 bits fits in 64 bits. Its distance from the least number also fits.
 pub wide : (l r : ℤ) → FitsSigned w32 l → FitsSigned w32 r → FitsSigned w64 (l +ℤ r) × FitsSigned w64 (l +ℤ r +ℤ pos 2147483648)
 wide l r a b = (bounded (l +ℤ r) (omega (arith, ints, a.sfits, b.sfits)) (omega (arith, ints, a.sfits, b.sfits)), bounded (l +ℤ r +ℤ pos 2147483648) (omega (arith, ints, a.sfits, b.sfits)) (omega (arith, ints, a.sfits, b.sfits)))
