@@ -54,7 +54,9 @@ class Talk:
     def __init__(self, text: str = TEXT, uri: str = URI, file_of: Callable[[str], Optional[str]] = no_file, **capabilities: Any) -> None:
         self.watcher, self.version, self.idents = WATCH.Watcher(file_of), 1, 0
         self.uri, self.now = uri, 1000.0
-        self.sends(harness.initialize(0, **{**EDITS, **capabilities}))
+        client = {**EDITS, **capabilities}
+        self.has_versions = "workspaceEdit" in client["workspace"]
+        self.sends(harness.initialize(0, **client))
         self.answers(0, {"capabilities": {}})
         self.sends(notice("initialized", {}))
         if text:
@@ -97,7 +99,9 @@ class Talk:
             return [{"title": "Inline here", "edit": self.result(it)} for it in edits]
         made = [{"range": it["range"], "newText": it["text"]} for it in edits]
         document = {"uri": self.uri, "version": self.version}
-        return made if method == FORMAT else {"documentChanges": [{"textDocument": document, "edits": made}]}
+        if method == FORMAT:
+            return made
+        return {"documentChanges": [{"textDocument": document, "edits": made}]} if self.has_versions else {"changes": {self.uri: made}}
 
     def found(self, is_broken: bool) -> set[str]:
         """The rules that are broken at the end, or those that have notes."""
@@ -282,8 +286,6 @@ NOTED: Dict[str, Tuple[str, Fault]] = {
             talk.changes(IN_TURN),
         ),
     ),
-    "an opening with a version below zero": ("versions", told(did_open("", "file:///other", -1))),
-    "a change with a version below zero": ("versions", lambda talk: talk.changes(TYPED, -1)),
     "an answer without a result": ("readable", told('{"id":1}')),
     "an end inside a message": ("readable", lambda talk: [talk.watcher.take("editor", it, 0.0) for it in (b"Content-L", b"")]),
     "an end before a content": (
@@ -306,7 +308,7 @@ NOTED: Dict[str, Tuple[str, Fault]] = {
 }
 # and what the rules allow
 ALLOWED: Dict[str, Fault] = {
-    "versions that fall, come again and are large": lambda talk: [talk.changes(TYPED, it) for it in (5, 4, 4, 0, 2**63 - 1)],
+    "versions that fall, come again, are negative and large": lambda talk: [talk.changes(TYPED, it) for it in (5, 4, 4, 0, -1, 2**63 - 1)],
     "an edit of a version that comes again": lambda talk: (talk.is_answered(replacements("tot")), talk.changes(IN_TURN, 1)),
     "an edit in a text that is as it was, in a later version": lambda talk: (
         talk.is_answered(replacements("tot")),
@@ -355,8 +357,8 @@ NO_EDITS: Message = {"workspace": {}, "textDocument": {}}
 ANNOUNCED: List[Tuple[Message, str, bool]] = [
     *((EDITS, it, False) for it in (RENAME, ACTION, FORMAT)),
     *(({**NO_EDITS, "workspace": EDITS["workspace"]}, it, it == ACTION) for it in (RENAME, ACTION, FORMAT)),
-    *(({**NO_EDITS, "textDocument": LITERALS}, it, it != FORMAT) for it in (RENAME, ACTION, FORMAT)),
-    *((NO_EDITS, it, it != FORMAT) for it in (RENAME, ACTION, FORMAT)),
+    *(({**NO_EDITS, "textDocument": LITERALS}, it, False) for it in (RENAME, ACTION, FORMAT)),
+    *((NO_EDITS, it, it == ACTION) for it in (RENAME, ACTION, FORMAT)),
 ]
 
 

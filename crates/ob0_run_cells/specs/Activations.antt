@@ -134,7 +134,7 @@ place_parameters [] p = p
 place_parameters (q ∷ ps) p =
     place_parameters ps (place_one (held 0) q.formal.mode q.name (size q.formal.shape) p)
 
--- Binds names that have no place, as those of constants and types, to `nowhere`.
+-- Binds names that have no place, such as the names of constants and types, to `nowhere`.
 abbrev pub hide_names : {N : Type 0} → List N → Placing N → Placing N
 hide_names [] placing = placing
 hide_names (x ∷ xs) placing = hide_names xs ((x, nowhere) ∷ placing)
@@ -323,7 +323,7 @@ outermost_placing naming =
     ∷ (naming.predeclared 0, nowhere)
     ∷ []
 
--- Holds if a program means a module: its body and its procedures mean those of the module.
+-- Holds if a program means a module: its body means the module's body, and its procedures the module's procedures.
 abbrev pub ProgramMeans : {N : Type 0}
     → Naming N
     → Tree N module_text

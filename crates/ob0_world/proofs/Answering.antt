@@ -8,10 +8,13 @@ use Rattle.std.specs.Prelude.{◌⊎◌, ◌&&◌, min, ℤ, Vec, All, Option, S
 use Rattle.std.specs.List.{cons_option}
 use Rattle.std.specs.Option.{option_to_list}
 use Rattle.std.specs.FinMap as map_of
+use Rattle.std.specs.Ordering.{match_ordering}
+use Rattle.std.specs.Cmp.Lexicographic.{nat_list_cmp_total}
+use Rattle.std.proofs.lemmas.Cmp.{tied_itself}
 use Rattle.std.specs.declared.alloc.Global.{Global}
 use Rattle.std.proofs.lemmas.List.Elements.{All-nil, All-push}
 use Rattle.serde_json.specs.Data.{Data, number, array, object, unsigned, item, no_items, member, no_members}
-use Rattle.serde_json.specs.Find.{as_i64, of_integer}
+use Rattle.serde_json.specs.Find.{get, as_array, as_i64, of_integer}
 use Rattle.serde_json.specs.View.{items_of}
 use Rattle.ob0_text.specs.declared.edits.Edit.{Edit}
 use Rattle.ob0_text.specs.declared.edits.Indent.{Indent}
@@ -130,20 +133,23 @@ edits_read_back (e ∷ edits) = ap (option_map (λ es. replacement_of e ∷ es))
 unfit_answer : (unit : Unit) (text : List ℕ) (ask : Ask) → ¬ IsWellTypedModule (utf8 text) → AnswersFor unit text ask []
 unfit_answer unit text ask unfit = inr (inr (λ fits. unfit (well_typed_module text fits)), refl)
 
--- The edits of a document with a version are read back from the WorkspaceEdit that has them.
-workspace_read_back : (client : Client) (uri : List ℕ) (version : ℤ) (edits : List Edit) → client.takes_document_changes ≡ true
-    → option_and_then edits_in (workspace_items (workspace_edit client uri version edits)) ≡ Some (replacements edits)
-workspace_read_back client uri version edits takes = go client.takes_document_changes takes
-  where
-    go : (b : Bool) → b ≡ true
-        → option_and_then edits_in (workspace_items (cond b (object (member (codes "documentChanges") (array (item (document_edit uri version edits) no_items)) no_members)) (object (member (codes "changes") (object (member uri (edits_value edits) no_members)) no_members))))
-        ≡ Some (replacements edits)
-    go true is = edits_read_back edits
-    go false is = absurd (cc)
+-- An object with one member has this member.
+own_member : (key : List ℕ) (d : Data) → get key (object (member key d no_members)) ≡ Some d
+own_member key d = ap (λ o. match_ordering o None (Some d) None) (tied_itself nat_list_cmp_total key)
 
-renames_read_back : (id : Data) (position : Position) (name uri : List ℕ) (version : ℤ) (edits : List Edit) (client : Client) → client.takes_document_changes ≡ true
-    → edits_for (rename position name) (result_message id (workspace_edit client uri version edits)) ≡ replacements edits
-renames_read_back id position name uri version edits client takes = ap (λ o. unwrap_or o []) (workspace_read_back client uri version edits takes)
+-- The edits of a document are read back from the WorkspaceEdit that has them, with a version or without.
+workspace_read_back : (client : Client) (uri : List ℕ) (version : ℤ) (edits : List Edit) → option_and_then edits_in (workspace_items uri (workspace_edit client uri version edits)) ≡ Some (replacements edits)
+workspace_read_back client uri version edits = go client.takes_document_changes
+  where
+    go : (b : Bool)
+        → option_and_then edits_in (workspace_items uri (cond b (object (member (codes "documentChanges") (array (item (document_edit uri version edits) no_items)) no_members)) (object (member (codes "changes") (object (member uri (edits_value edits) no_members)) no_members))))
+        ≡ Some (replacements edits)
+    go true = edits_read_back edits
+    go false = ap (λ o. option_and_then edits_in (option_and_then as_array o)) (own_member uri (edits_value edits)) ∙ edits_read_back edits
+
+renames_read_back : (id : Data) (position : Position) (name uri : List ℕ) (version : ℤ) (edits : List Edit) (client : Client)
+    → edits_for uri (rename position name) (result_message id (workspace_edit client uri version edits)) ≡ replacements edits
+renames_read_back id position name uri version edits client = ap (λ o. unwrap_or o []) (workspace_read_back client uri version edits)
 
 -- returns a rename request in the session's words
 abbrev rename_requested : Client → Data → List ℕ → Position → List ℕ → ℤ → RequestedRename
@@ -167,19 +173,19 @@ edits_offered (Some edits) = replacements edits.items
 edits_offered None = []
 
 -- The editor reads the edits of the action that it asked for from the list of offered actions.
-actions_read_back : (how : Inlining) (position : Position) (requested : RequestedActions) (here everywhere : Option (Vec Edit Global)) → requested.client.takes_document_changes ≡ true
-    → edits_for (inlining_at how position) (result_message requested.id (actions_value requested here everywhere)) ≡ edits_offered (requested_for how here everywhere)
-actions_read_back Here position requested (Some edits) everywhere takes = ap (λ o. unwrap_or o []) (workspace_read_back requested.client requested.uri requested.version edits.items takes)
-actions_read_back Here position requested None (Some other) takes = refl
-actions_read_back Here position requested None None takes = refl
-actions_read_back Everywhere position requested (Some other) (Some edits) takes = ap (λ o. unwrap_or o []) (workspace_read_back requested.client requested.uri requested.version edits.items takes)
-actions_read_back Everywhere position requested None (Some edits) takes = ap (λ o. unwrap_or o []) (workspace_read_back requested.client requested.uri requested.version edits.items takes)
-actions_read_back Everywhere position requested (Some other) None takes = refl
-actions_read_back Everywhere position requested None None takes = refl
+actions_read_back : (how : Inlining) (position : Position) (requested : RequestedActions) (here everywhere : Option (Vec Edit Global))
+    → edits_for requested.uri (inlining_at how position) (result_message requested.id (actions_value requested here everywhere)) ≡ edits_offered (requested_for how here everywhere)
+actions_read_back Here position requested (Some edits) everywhere = ap (λ o. unwrap_or o []) (workspace_read_back requested.client requested.uri requested.version edits.items)
+actions_read_back Here position requested None (Some other) = refl
+actions_read_back Here position requested None None = refl
+actions_read_back Everywhere position requested (Some other) (Some edits) = ap (λ o. unwrap_or o []) (workspace_read_back requested.client requested.uri requested.version edits.items)
+actions_read_back Everywhere position requested None (Some edits) = ap (λ o. unwrap_or o []) (workspace_read_back requested.client requested.uri requested.version edits.items)
+actions_read_back Everywhere position requested (Some other) None = refl
+actions_read_back Everywhere position requested None None = refl
 
-pub none_read_back : (how : Inlining) (position : Position) (id : Data) → edits_for (inlining_at how position) (result_message id (array no_items)) ≡ []
-none_read_back Here position id = refl
-none_read_back Everywhere position id = refl
+pub none_read_back : (how : Inlining) (position : Position) (uri : List ℕ) (id : Data) → edits_for uri (inlining_at how position) (result_message id (array no_items)) ≡ []
+none_read_back Here position uri id = refl
+none_read_back Everywhere position uri id = refl
 
 -- An inlining that is offered, or not offered for a reason, is the answer to the ask.
 offered_here : (unit : Unit) (text : List ℕ) (position : Position) (o : Option (Vec Edit Global)) → Offers Here unit text (place_at unit text position) o → AnswersFor unit text (inline_here position) (edits_offered o)
@@ -333,10 +339,10 @@ module _ (number_of : Data → Option ℕ) (requested : List SentAsk) where
     is : IsAsk requested k uri ask
 
   -- The editor reads the answer with this id as the answer to ask k.
-  answered : (id : Data) (k : ℕ) (uri : List ℕ) (ask : Ask) (answer : Data) → Asks id k uri ask → option_and_then (answer_to requested answer) (number_of id) ≡ Some (answers k (edits_for ask answer))
+  answered : (id : Data) (k : ℕ) (uri : List ℕ) (ask : Ask) (answer : Data) → Asks id k uri ask → option_and_then (answer_to requested answer) (number_of id) ≡ Some (answers k (edits_for uri ask answer))
   answered id k uri ask answer of =
       ap (option_and_then (answer_to requested answer)) of.numbered
-      ∙ ap (option_map (λ (a : SentAsk). answers k (edits_for a.ask answer))) of.is.is ∙ ap (λ x. Some (answers k (edits_for x answer))) of.is.asks_this
+      ∙ ap (option_map (λ (a : SentAsk). answers k (edits_for a.uri a.ask answer))) of.is.is ∙ (λ i. Some (answers k (edits_for (of.is.about i) (of.is.asks_this i) answer)))
 
   -- states that the contents are the answer to ask k about this document
   record Answered (k : ℕ) (ask : Ask) (unit : Unit) (o : Option Document) (sent : List (List ℕ)) : Type 0 where
@@ -361,7 +367,7 @@ module _ (number_of : Data → Option ℕ) (requested : List SentAsk) where
       go : AnswersFormatting unit id (indent_read indent) text message → Answered k (format indent) unit (Some (InStep version text)) sent
       go (inl (edits, laid, is)) =
           let answer : Data = result_message id (edits_value edits) in
-          let these : edits_for (format indent) answer ≡ replacements edits = ap (λ o. unwrap_or o []) (edits_read_back edits) in
+          let these : edits_for uri (format indent) answer ≡ replacements edits = ap (λ o. unwrap_or o []) (edits_read_back edits) in
           record {
             edits = replacements edits;
             heard = heard_one sent answer (answers k (replacements edits)) (subst (λ m. Sends m sent) is sends) (answered id k uri (format indent) answer of ∙ ap (λ es. Some (answers k es)) these);
@@ -370,14 +376,14 @@ module _ (number_of : Data → Option ℕ) (requested : List SentAsk) where
       go (inr (inl (long, is))) = refused id k uri (format indent) unit (Some (InStep version text)) (minus 32803) (refusal_text TooLong) sent of (subst (λ m. Sends m sent) is sends) (inr (inl long, refl))
       go (inr (inr (unfit, is))) = refused id k uri (format indent) unit (Some (InStep version text)) (minus 32803) (codes "ill-typed") sent of (subst (λ m. Sends m sent) is sends) (unfit_answer unit text (format indent) unfit)
 
-  renamed : (id : Data) (k : ℕ) (uri : List ℕ) (position : Position) (name : List ℕ) (client : Client) (unit : Unit) (version : ℤ) (text : List ℕ) (sent : List (List ℕ)) → client.takes_document_changes ≡ true → Asks id k uri (rename position name)
+  renamed : (id : Data) (k : ℕ) (uri : List ℕ) (position : Position) (name : List ℕ) (client : Client) (unit : Unit) (version : ℤ) (text : List ℕ) (sent : List (List ℕ)) → Asks id k uri (rename position name)
       → SaysReply (renames unit (rename_requested client id uri position name version) text) sent → Answered k (rename position name) unit (Some (InStep version text)) sent
-  renamed id k uri position name client unit version text sent takes of (message, how, sends) = go how
+  renamed id k uri position name client unit version text sent of (message, how, sends) = go how
     where
       go : AnswersRenaming unit (rename_requested client id uri position name version) text message → Answered k (rename position name) unit (Some (InStep version text)) sent
       go (inl (edits, found, is)) =
           let answer : Data = result_message id (workspace_edit client uri version edits) in
-          let these : edits_for (rename position name) answer ≡ replacements edits = renames_read_back id position name uri version edits client takes in
+          let these : edits_for uri (rename position name) answer ≡ replacements edits = renames_read_back id position name uri version edits client in
           record {
             edits = replacements edits;
             heard = heard_one sent answer (answers k (replacements edits)) (subst (λ m. Sends m sent) is sends) (answered id k uri (rename position name) answer of ∙ ap (λ es. Some (answers k es)) these);
@@ -387,14 +393,14 @@ module _ (number_of : Data → Option ℕ) (requested : List SentAsk) where
       go (inr (inr (unfit, is))) = refused id k uri (rename position name) unit (Some (InStep version text)) (minus 32803) (codes "ill-typed") sent of (subst (λ m. Sends m sent) is sends) (unfit_answer unit text (rename position name) unfit)
 
   inlined_in : (how : Inlining) (id : Data) (k : ℕ) (uri : List ℕ) (position : Position) (range : Range) (only : Option (List (List ℕ))) (client : Client) (unit : Unit) (version : ℤ) (text : List ℕ) (sent : List (List ℕ))
-      → client.takes_document_changes ≡ true → client.takes_literal_actions ≡ true → allows_inlining only ≡ true → actions_offset unit text range ≡ place_at unit text position → Asks id k uri (inlining_at how position)
+      → client.takes_literal_actions ≡ true → allows_inlining only ≡ true → actions_offset unit text range ≡ place_at unit text position → Asks id k uri (inlining_at how position)
       → SaysReply (offers_actions unit (actions_requested_in client id uri range only version) text) sent → Answered k (inlining_at how position) unit (Some (InStep version text)) sent
-  inlined_in how id k uri position range only client unit version text sent takes literal allowed place of (message, (value, how_listed, is), sends) = go how_listed
+  inlined_in how id k uri position range only client unit version text sent literal allowed place of (message, (value, how_listed, is), sends) = go how_listed
     where
       request : RequestedActions
       request = actions_requested_in client id uri range only version
 
-      with_edits : (edits : List Replacement) → edits_for (inlining_at how position) (result_message id value) ≡ edits → AnswersFor unit text (inlining_at how position) edits
+      with_edits : (edits : List Replacement) → edits_for uri (inlining_at how position) (result_message id value) ≡ edits → AnswersFor unit text (inlining_at how position) edits
           → Answered k (inlining_at how position) unit (Some (InStep version text)) sent
       with_edits edits these answer_is =
           let answer : Data = result_message id value in
@@ -417,16 +423,16 @@ module _ (number_of : Data → Option ℕ) (requested : List SentAsk) where
       go : ListsActions unit request text value → Answered k (inlining_at how position) unit (Some (InStep version text)) sent
       go (inl h) =
           with_edits (edits_offered (requested_for how h.here h.everywhere))
-          (ap (λ v. edits_for (inlining_at how position) (result_message id v)) h.listed ∙ actions_read_back how position request h.here h.everywhere takes)
+          (ap (λ v. edits_for uri (inlining_at how position) (result_message id v)) h.listed ∙ actions_read_back how position request h.here h.everywhere)
           (requested_offered how unit text position (actions_offset unit text range) h.here h.everywhere place h.offers_here h.offers_everywhere)
       go (inr (why, listed)) =
-          with_edits [] (ap (λ v. edits_for (inlining_at how position) (result_message id v)) listed ∙ none_read_back how position id) (unfit_answer unit text (inlining_at how position) (unfit why))
+          with_edits [] (ap (λ v. edits_for uri (inlining_at how position) (result_message id v)) listed ∙ none_read_back how position uri id) (unfit_answer unit text (inlining_at how position) (unfit why))
 
-  inlined : (how : Inlining) (id : Data) (k : ℕ) (uri : List ℕ) (position : Position) (client : Client) (unit : Unit) (version : ℤ) (text : List ℕ) (sent : List (List ℕ)) → client.takes_document_changes ≡ true → client.takes_literal_actions ≡ true
+  inlined : (how : Inlining) (id : Data) (k : ℕ) (uri : List ℕ) (position : Position) (client : Client) (unit : Unit) (version : ℤ) (text : List ℕ) (sent : List (List ℕ)) → client.takes_literal_actions ≡ true
       → Asks id k uri (inlining_at how position)
       → SaysReply (offers_actions unit (actions_requested_at client id uri position version) text) sent → Answered k (inlining_at how position) unit (Some (InStep version text)) sent
-  inlined how id k uri position client unit version text sent takes literal of saying =
-      inlined_in how id k uri position (empty_at position) None client unit version text sent takes literal refl (place_is unit text position) of saying
+  inlined how id k uri position client unit version text sent literal of saying =
+      inlined_in how id k uri position (empty_at position) None client unit version text sent literal refl (place_is unit text position) of saying
 
   -- ---- asks
 
@@ -454,19 +460,19 @@ module _ (number_of : Data → Option ℕ) (requested : List SentAsk) where
       let say : ℤ → List ℕ → Reply = λ version. renames before.held.unit (rename_requested before.client id uri position name version) in
       let so : answer_method before id (method_of (rename position name)) params ≡ answers_about before id (document_at before.held uri) say = ap (answer_request before id) call in
       about_document id k uri (rename position name) say before after sent running of
-      (λ version text. renamed id k uri position name before.client before.held.unit version text sent takes of) (document_at before.held uri) refl
+      (λ version text. renamed id k uri position name before.client before.held.unit version text sent of) (document_at before.held uri) refl
       (is ∙ ap (λ (x : Reaction). x.after) so) (subst (λ (x : Reaction). SaysReply x.say sent) so saying)
   request_served id k uri (inline_here position) params before after sent running takes of call is saying =
       let say : ℤ → List ℕ → Reply = λ version. offers_actions before.held.unit (actions_requested_at before.client id uri position version) in
       let so : answer_method before id (method_of (inline_here position)) params ≡ answers_about before id (document_at before.held uri) say = ap (answer_request before id) call in
       about_document id k uri (inline_here position) say before after sent running of
-      (λ version text. inlined Here id k uri position before.client before.held.unit version text sent takes.0 takes.1 of) (document_at before.held uri) refl
+      (λ version text. inlined Here id k uri position before.client before.held.unit version text sent takes of) (document_at before.held uri) refl
       (is ∙ ap (λ (x : Reaction). x.after) so) (subst (λ (x : Reaction). SaysReply x.say sent) so saying)
   request_served id k uri (inline_all position) params before after sent running takes of call is saying =
       let say : ℤ → List ℕ → Reply = λ version. offers_actions before.held.unit (actions_requested_at before.client id uri position version) in
       let so : answer_method before id (method_of (inline_all position)) params ≡ answers_about before id (document_at before.held uri) say = ap (answer_request before id) call in
       about_document id k uri (inline_all position) say before after sent running of
-      (λ version text. inlined Everywhere id k uri position before.client before.held.unit version text sent takes.0 takes.1 of) (document_at before.held uri) refl
+      (λ version text. inlined Everywhere id k uri position before.client before.held.unit version text sent takes of) (document_at before.held uri) refl
       (is ∙ ap (λ (x : Reaction). x.after) so) (subst (λ (x : Reaction). SaysReply x.say sent) so saying)
   request_served id k uri (format indent) params before after sent running takes of call is saying =
       let say : ℤ → List ℕ → Reply = λ version. lays_out before.held.unit id (indent_read indent) in
@@ -484,7 +490,7 @@ module _ (number_of : Data → Option ℕ) (requested : List SentAsk) where
       let say : ℤ → List ℕ → Reply = λ version. offers_actions before.held.unit (actions_requested_in before.client id uri range only version) in
       let so : answer_method before id (codes "textDocument/codeAction") params ≡ answers_about before id (document_at before.held uri) say = ap (answer_request before id) call in
       about_document id k uri (inlining_at how position) say before after sent running of
-      (λ version text. inlined_in how id k uri position range only before.client before.held.unit version text sent takes.0 takes.1 allowed (place before.held.unit text) of) (document_at before.held uri) refl
+      (λ version text. inlined_in how id k uri position range only before.client before.held.unit version text sent takes allowed (place before.held.unit text) of) (document_at before.held uri) refl
       (is ∙ ap (λ (x : Reaction). x.after) so) (subst (λ (x : Reaction). SaysReply x.say sent) so saying)
 
   -- ---- contents
@@ -518,9 +524,9 @@ module _ (number_of : Data → Option ℕ) (requested : List SentAsk) where
 
 -- A session that runs with this editor has a client that accepts the edits of each ask.
 takes_all : (s : ServerState) (ask : Ask) → IsRunning s → TakesEdits s.client ask
-takes_all s (rename position name) running = running.1
-takes_all s (inline_here position) running = (running.1, running.2)
-takes_all s (inline_all position) running = (running.1, running.2)
+takes_all s (rename position name) running = tt
+takes_all s (inline_here position) running = running.2
+takes_all s (inline_all position) running = running.2
 takes_all s (format indent) running = tt
 
 -- The session replies to a message of the model's editor as the model's server does. The ids of that editor's requests

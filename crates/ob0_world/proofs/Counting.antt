@@ -1,5 +1,6 @@
 -- Proves that a step raises each count of the editor by one at most.
 use Rattle.std.proofs.Common.{◌≡◌, ◌∙◌, ◌≤◌, ◌<◌, ◌+◌, ◌-◌, ◌^◌, ℕ, List, [], ◌∷◌, ◌++◌, length, Some, sym, ap, subst, arith}
+use Rattle.std.specs.Prelude.{pos}
 use Rattle.std.specs.FinMap as map_of
 use Rattle.std.specs.Ordering.{nat_cmp}
 use Rattle.std.specs.Cmp.Lexicographic.{slice_cmp}
@@ -10,7 +11,7 @@ use Rattle.ob0_text.specs.declared.position_types.Unit.{Unit}
 use Rattle.ob0_world_rules.specs.Edited.{whole_text}
 use Rattle.ob0_world_rules.specs.Asks.{Ask}
 use Rattle.ob0_world_rules.specs.ClientAndServer.{Open, SentAsk, Editor, open_at, ToServer, ToEditor, publishes, answers, Applied, ClientAndServer, new_editor}
-use Rattle.ob0_world_rules.specs.Editing.{Act, opens, rewrites, closes, asks, without_answer, done_by, reads}
+use Rattle.ob0_world_rules.specs.Editing.{Act, counted, next_version, opens, rewrites, closes, asks, without_answer, done_by, reads}
 use Rattle.ob0_world_rules.specs.Happens.{Event, does, serve, take_message, after_taking, ServerTakes, Happens}
 use Rattle.ob0_world_rules.proofs.Acts.{edit_of, of_each}
 use Rattle.ob0_world_rules.proofs.SameDocument.{found, left}
@@ -22,7 +23,7 @@ few n e within h =
     record {
       openings = let a : e.openings ≤ n = within.openings in omega arith;
       asks = let a : length e.requested ≤ n = within.asks in omega arith;
-      versions = λ uri d at. let a : d.version ≤ n = within.versions uri d at in omega arith;
+      versions = λ uri d at. let a : counted d.version ≤ n = within.versions uri d at in omega arith;
     }
 
 pub within_start : (unit : Unit) → Within 0 (new_editor unit)
@@ -34,36 +35,36 @@ more n e within =
     record {
       openings = let a : e.openings ≤ n = within.openings in omega arith;
       asks = let a : length e.requested ≤ n = within.asks in omega arith;
-      versions = λ uri d at. let a : d.version ≤ n = within.versions uri d at in omega arith;
+      versions = λ uri d at. let a : counted d.version ≤ n = within.versions uri d at in omega arith;
     }
 
-put : (n : ℕ) (e : Editor) (uri : List ℕ) (new : Open) (openings : ℕ) → Within n e → new.version ≤ n + 1 → openings ≤ n + 1 → Within (n + 1) (record e { documents = map_of.insert e.documents uri new; openings = openings })
+put : (n : ℕ) (e : Editor) (uri : List ℕ) (new : Open) (openings : ℕ) → Within n e → counted new.version ≤ n + 1 → openings ≤ n + 1 → Within (n + 1) (record e { documents = map_of.insert e.documents uri new; openings = openings })
 put n e uri new openings within version few_openings =
     record {
       openings = few_openings;
       asks = let a : length e.requested ≤ n = within.asks in omega arith;
-      versions = λ q d at. found e.documents uri q new d (d.version ≤ n + 1) at (λ same is. subst (λ x. x.version ≤ n + 1) is version)
-          (λ was. let a : d.version ≤ n = within.versions q d was in omega arith);
+      versions = λ q d at. found e.documents uri q new d (counted d.version ≤ n + 1) at (λ same is. subst (λ x. counted x.version ≤ n + 1) is version)
+          (λ was. let a : counted d.version ≤ n = within.versions q d was in omega arith);
     }
 
 rewritten_within : (n : ℕ) (e : Editor) (uri : List ℕ) (d : Open) (text : List ℕ) (how : List TextChange) (applied : List Applied) → open_at e uri ≡ Some d → Within n e → Within (n + 1) (rewrites e uri d text how applied).editor
 rewritten_within n e uri d text how applied at within =
-    let a : d.version ≤ n = within.versions uri d at in
+    let a : counted d.version ≤ n = within.versions uri d at in
     let b : e.openings ≤ n = within.openings in
-    put n e uri (record d { version = d.version + 1; text = text }) e.openings within (omega arith) (omega arith)
+    put n e uri (record d { version = next_version d.version; text = text }) e.openings within (omega arith) (omega arith)
 
 module _ (n : ℕ) (e : Editor) (within : Within n e) where
   open_within : (uri text : List ℕ) → Within (n + 1) (opens e uri text).editor
   open_within uri text =
       let b : e.openings ≤ n = within.openings in
-      put n e uri (record { version = 1; text = text; opening = e.openings + 1 }) (e.openings + 1) within (omega arith) (omega arith)
+      put n e uri (record { version = pos 1; text = text; opening = e.openings + 1 }) (e.openings + 1) within (omega arith) (omega arith)
 
   close_within : (uri : List ℕ) → Within (n + 1) (closes e uri).editor
   close_within uri =
       record {
         openings = let a : e.openings ≤ n = within.openings in omega arith;
         asks = let a : length e.requested ≤ n = within.asks in omega arith;
-        versions = λ q x at. let a : x.version ≤ n = within.versions q x (left e.documents uri q x at) in omega arith;
+        versions = λ q x at. let a : counted x.version ≤ n = within.versions q x (left e.documents uri q x at) in omega arith;
       }
 
   ask_within : (uri : List ℕ) (ask : Ask) (d : Open) → Within (n + 1) (asks e uri ask d).editor
@@ -71,7 +72,7 @@ module _ (n : ℕ) (e : Editor) (within : Within n e) where
       record {
         openings = let a : e.openings ≤ n = within.openings in omega arith;
         asks = longer e.requested _ within.asks;
-        versions = λ q x at. let a : x.version ≤ n = within.versions q x at in omega arith;
+        versions = λ q x at. let a : counted x.version ≤ n = within.versions q x at in omega arith;
       }
     where
       longer : (xs : List SentAsk) (x : SentAsk) → length xs ≤ n → length (xs ++ x ∷ []) ≤ n + 1

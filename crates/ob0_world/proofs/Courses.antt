@@ -4,7 +4,6 @@
 -- `serve` has the same relation (`Served`). A step whose allocation fails keeps the results and the passed contents
 -- (`SameHistory`), so the claims hold of the events before it.
 use Rattle.std.proofs.Common.{◌≡◌, ◌∙◌, ℕ, ◌+◌, ◌<◌, List, [], ◌∷◌, ◌++◌, length, take, get_or, map, refl, sym, ap, subst, inl, inr}
-use Rattle.std.specs.Prelude.{All}
 use Rattle.std.proofs.lemmas.List.{map-append, take_more, append-nil, append_assoc}
 use Rattle.ob0_text.specs.declared.position_types.Unit.{Unit}
 use Rattle.ob0_rpc.specs.declared.clients.Client.{Client}
@@ -17,9 +16,9 @@ use Rattle.ob0_world.specs.declared.faults.PlayFault.{PlayFault}
 use Rattle.ob0_world.specs.declared.played.Played as played
 use Rattle.ob0_world_rules.specs.ClientAndServer.{ClientAndServer, start}
 use Rattle.ob0_world_rules.specs.Happens.{Event, does, serve, take_message, Course}
-use Rattle.ob0_world_rules.specs.Headline.{Headline, WasMadeFor}
-use Rattle.ob0_world_rules.proofs.ModelEditor.{in_every_interleaving}
-use Rattle.ob0_world_rules.proofs.MadeFor.{made_for}
+use Rattle.ob0_world_rules.specs.Headline.{Headline}
+use Rattle.ob0_world_rules.specs.MadeInOrder.{AreMadeInOrder}
+use Rattle.ob0_world_rules.proofs.ModelEditor.{in_every_interleaving, made_in_order}
 use Rattle.ob0_world_rules.proofs.OneCourse.{one_course}
 use Rattle.ob0_world.specs.Code.{event_of, all_applied, all_made}
 use Rattle.ob0_world.specs.Worlds.{Wire, Connection, Begins, TakesFirst, GetsFirst, WritesContent, MovesWire, ConnectionStep, ConnectionCourse, HasCome, HasPassed, Plays, PlaysBefore, SameHistory}
@@ -103,7 +102,7 @@ headline unit events w p course come =
       applied_are = come.0;
       made_are = come.1;
       holds = in_every_interleaving unit (map event_of events) w course;
-      made_for = subst (All (WasMadeFor unit (map event_of events))) (sym come.1) (made_for unit (map event_of events) w course);
+      made_for = subst (AreMadeInOrder unit (map event_of events)) (sym come.1) (made_in_order unit (map event_of events) w course);
     }
 
 course_begun : (unit : Unit) (begin : Connection) (events : List Event) (end : Connection) → Begins unit begin → ConnectionCourse begin events end → Course (start unit) events end.model

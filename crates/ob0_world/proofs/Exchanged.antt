@@ -140,7 +140,7 @@ request_said id uri (format indent) content is = is
 
 module _ (client : Client) (takes : TakesActions client) where
   takes_ask : (ask : Ask) → TakesEdits client ask
-  takes_ask (rename position name) = takes.0
+  takes_ask (rename position name) = tt
   takes_ask (inline_here position) = takes
   takes_ask (inline_all position) = takes
   takes_ask (format indent) = tt
@@ -248,7 +248,7 @@ module _ (c : Connection) (announced : List Announced) (goes : Goes c) where
                 contents,
                 may,
                 sent_names c.model.editor act,
-                each_says c.wire.session.client (goes.running.1, goes.running.2) done.editor.requested done.sent contents say,
+                each_says c.wire.session.client goes.running.2 done.editor.requested done.sent contents say,
                 refl,
               ),
               refl,

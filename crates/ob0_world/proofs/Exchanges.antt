@@ -1,12 +1,12 @@
 -- Proves that an exchange of a session and an editor that keeps ob0's rules follows the model, turn by turn.
 use Rattle.std.proofs.Common.{◌≡◌, ◌∙◌, ℕ, zero, suc, Bool, true, false, cond, List, [], ◌∷◌, ◌++◌, map, refl, sym, ap, subst, inl, inr}
-use Rattle.std.specs.Prelude.{⊤, ℤ, pos, fold, All, Option, Some, None, MatchOption, Result, Ok, Err, is_some, filter_map, option_map, option_and_then, codes}
+use Rattle.std.specs.Prelude.{⊤, ℤ, fold, All, Option, Some, None, MatchOption, Result, Ok, Err, is_some, filter_map, option_map, option_and_then, codes}
 use Rattle.std.specs.List.{cons_option}
 use Rattle.std.specs.Option.{option_to_list}
 use Rattle.std.specs.Str.{bytes_eq, is_utf8}
 use Rattle.std.proofs.lemmas.List.{append-nil, append_assoc, map-append}
 use Rattle.std.proofs.lemmas.List.Elements.{All-head, All-tail}
-use Rattle.serde_json.specs.Data.{Data}
+use Rattle.serde_json.specs.Data.{Data, null}
 use Rattle.serde_json.specs.Find.{get}
 use Rattle.serde_json.specs.Read.{read}
 use Rattle.ob0_text.specs.RefusalTexts.{refusal_text}
@@ -15,6 +15,7 @@ use Rattle.ob0_text.specs.declared.refusals.EditRefusal.TheVariants.{TooLong}
 use Rattle.ob0_text.specs.declared.position_types.Unit.{Unit}
 use Rattle.ob0_text.specs.OpenDocuments.{OpenDocuments, Document, InStep, OutOfStep, Opened, Changed, Lost, Closed, after_event, none_open, document_at}
 use Rattle.ob0_rpc.specs.declared.incoming.RpcFault.{RpcFault}
+use Rattle.ob0_rpc.specs.declared.incoming.RpcFault.TheVariants.{NotAMessage}
 use Rattle.ob0_rpc.specs.Faults.{minus, error_code, error_text}
 use Rattle.ob0_rpc.specs.Messages.{ReadsContent, MessageMeaning, not_json, not_a_message, response, request, notice, meaning_of}
 use Rattle.ob0_rpc.specs.Notifications.{other}
@@ -264,7 +265,7 @@ module _ (ids : List SentId) (requested : List SentAsk) (before after : ServerSt
 
   message_served : before.phase ≡ Running → (m : MessageMeaning) → IsOtherMessage ids m → after ≡ (react before m).after → SaysReply (react before m).say sent → OtherServed ids requested before after sent
   message_served running not_json h same saying = absurd h
-  message_served running not_a_message h same saying = absurd h
+  message_served running not_a_message h same saying = refused_other null (error_code NotAMessage) (error_text NotAMessage) tt same saying
   message_served running response h same saying = no_reply same saying
   message_served running (request id method params) (first, question, own) same saying =
       let so : react before (request id method params) ≡ answer_method before id method params =
@@ -288,7 +289,7 @@ module _ (ids : List SentId) (requested : List SentAsk) (before after : ServerSt
 answer_published : (number_of : Data → Option ℕ) (requested : List SentAsk) (d : Data) → with_version (answer_read number_of requested d) ≡ []
 answer_published number_of requested d = go (option_and_then number_of (get (codes "id") d))
   where
-    at : (k : ℕ) (o : Option SentAsk) → with_version (option_map (λ (a : SentAsk). answers k (edits_for a.ask d)) o) ≡ []
+    at : (k : ℕ) (o : Option SentAsk) → with_version (option_map (λ (a : SentAsk). answers k (edits_for a.uri a.ask d)) o) ≡ []
     at k None = refl
     at k (Some a) = refl
 
@@ -643,8 +644,8 @@ last_right uri last (m ∷ made) h all = last_right uri (cond (bytes_eq m.uri ur
     go true = All-head IsRight m made all
     go false = h
 
-latest_right : (d : Open) (o : Option Made) → MatchOption o ⊥ (λ m. (m.version ≡ pos d.version) × (m.text ≡ d.text)) → MatchOption o ⊤ IsRight
-    → MatchOption (option_map named o) ⊥ (λ p. (p.version ≡ pos d.version) × IsEmptyIfCorrect d.text p.empty)
+latest_right : (d : Open) (o : Option Made) → MatchOption o ⊥ (λ m. (m.version ≡ d.version) × (m.text ≡ d.text)) → MatchOption o ⊤ IsRight
+    → MatchOption (option_map named o) ⊥ (λ p. (p.version ≡ d.version) × IsEmptyIfCorrect d.text p.empty)
 latest_right d None h right = h
 latest_right d (Some m) h right = (h.0, subst (λ text. IsEmptyIfCorrect text m.empty) h.1 right)
 
@@ -717,7 +718,7 @@ every_exchange_holds unit begin now turns b leads =
       right = subst (λ ps. AreRightOf ps holds.published) (sym shown.published) (right_of led.made holds.published holds.holds.made holds.made_of);
       still_wait = holds.still_wait ∙ notes_named waiting ∙ ap named_in (sym notes);
       latest = λ quiet uri d at.
-          subst (λ o. MatchOption o ⊥ (λ p. (p.version ≡ pos d.version) × IsEmptyIfCorrect d.text p.empty)) (sym (ap (last_published uri) shown.published ∙ last_named uri None led.made))
+          subst (λ o. MatchOption o ⊥ (λ p. (p.version ≡ d.version) × IsEmptyIfCorrect d.text p.empty)) (sym (ap (last_published uri) shown.published ∙ last_named uri None led.made))
           (latest_right d (last_publication uri led.made)
           (holds.latest (sym notes ∙ quiet) uri d at)
           (last_right uri None led.made tt holds.holds.made));

@@ -5,7 +5,7 @@ use Rattle.ob0_world_rules.specs.Happens.{Event, Happens}
 use Rattle.ob0_world_rules.specs.Mirror.{Mirrors}
 use Rattle.ob0_world_rules.specs.Headline.{Holds}
 use Rattle.ob0_world_rules.proofs.ModelEditor.{in_every_interleaving, server_mirrors}
-use Rattle.ob0_world_rules.proofs.MadeFor.{course_push}
+use Rattle.ob0_world_rules.proofs.OneCourse.{course_push}
 use Rattle.ob0_text.specs.declared.position_types.Unit.{Unit}
 use Rattle.ob0_world.specs.Queues.{IsReached}
 use Rattle.ob0_world.specs.Seen.{Seen, Shows}

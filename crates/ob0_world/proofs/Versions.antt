@@ -36,7 +36,7 @@ use Rattle.ob0_world_editor.specs.Understood.{edits_for}
 use Rattle.ob0_world_rules.specs.Answers.{Inlining, Here, Everywhere}
 use Rattle.ob0_world_rules.specs.Asks.{Ask, rename, inline_here, inline_all, format, indent_read}
 use Rattle.ob0_world_rules.specs.Edited.{edited, whole_text}
-use Rattle.ob0_world_rules.specs.Editing.{Act, Done, done_by, rewrites, if_same}
+use Rattle.ob0_world_rules.specs.Editing.{Act, Done, next_version, same_version, done_by, rewrites, if_same}
 use Rattle.ob0_world_rules.specs.ClientAndServer.{Open, SentAsk, request_numbered, open_at, ToServer, notifies, requests, ToEditor, publishes, answers, ClientAndServer, start, after_message}
 use Rattle.ob0_world_rules.specs.Happens.{Event, does, serve, take_message, after_taking, ServerTakes}
 use Rattle.ob0_world_rules.specs.Mirror.{as_open, Mirrors}
@@ -55,7 +55,7 @@ pub record IsHeldAsAsked (requested : List SentAsk) (held : OpenDocuments) (k : 
   pub sent : SentAsk
   pub is : request_numbered requested k ≡ Some sent
   pub text : List ℕ
-  pub holds : document_at held uri ≡ Some (InStep (pos sent.version) text)
+  pub holds : document_at held uri ≡ Some (InStep sent.version text)
 
 -- holds if the server, when it takes each waiting request, has the document with the version that it had when the
 -- request was sent
@@ -105,7 +105,7 @@ module _ (w : ClientAndServer) (contents : List (List ℕ)) (mirrors : Mirrors w
         sent = a;
         is = slice_get_last w.editor.requested a;
         text = d.text;
-        holds = mirrors uri ∙ ap (option_map as_open) is ∙ ap (λ v. Some (InStep (pos v) d.text)) (sym same);
+        holds = mirrors uri ∙ ap (option_map as_open) is ∙ ap (λ v. Some (InStep v d.text)) (sym same);
       } in (
         asks_append (w.editor.requested ++ a ∷ []) w.held w.to_server (requests (suc (length w.editor.requested)) uri ask ∷ []) (asks_more w.editor.requested (a ∷ []) w.held w.to_server asked) (this, tt),
         names_more w.editor.requested (a ∷ []) contents named,
@@ -117,10 +117,10 @@ module _ (w : ClientAndServer) (contents : List (List ℕ)) (mirrors : Mirrors w
       (record {
         still = (quiet, named);
         opened = λ uri text none. (noted (Opened uri (pos 1) text), named);
-        changed = λ uri d how text at made. (noted (Changed uri (pos (d.version + 1)) how), named);
+        changed = λ uri d how text at made. (noted (Changed uri (next_version d.version) how), named);
         closed = λ uri d at. (noted (Closed uri), named);
         asked = λ uri ask d at. asks_now uri ask d at (record { ask = ask; uri = uri; text = d.text; opening = d.opening; version = d.version }) refl;
-        made = λ k edits a d text held numbered same makes. (noted (Changed a.uri (pos (d.version + 1)) (whole_text text ∷ [])), named);
+        made = λ k edits a d text held numbered same makes. (noted (Changed a.uri (next_version d.version) (whole_text text ∷ [])), named);
         dropped = λ k. (quiet, named);
       })
 
@@ -181,45 +181,45 @@ edit_names client uri version edits takes = go client.takes_document_changes tak
     go false is = absurd (cc)
 
 abbrev NamesFor : Ask → List ℕ → ℤ → Data → Type 0
-NamesFor ask uri version answer = (named_in ask answer ≡ Some (uri, version)) ⊎ ((edits_for ask answer ≡ []) ⊎ IsLayout ask)
+NamesFor ask uri version answer = (named_in ask answer ≡ Some (uri, version)) ⊎ ((edits_for uri ask answer ≡ []) ⊎ IsLayout ask)
 
 module _ (requested : List SentAsk) (k : ℕ) (uri : List ℕ) (sent : List (List ℕ)) where
-  answer_names : (ask : Ask) (of : IsAsk requested k uri ask) (message : Data) → Sends message sent → option_and_then request_number (get (codes "id") message) ≡ Some k → NamesFor ask uri (pos of.sent.version) message → All (NamesItsAsk requested) sent
+  answer_names : (ask : Ask) (of : IsAsk requested k uri ask) (message : Data) → Sends message sent → option_and_then request_number (get (codes "id") message) ≡ Some k → NamesFor ask uri of.sent.version message → All (NamesItsAsk requested) sent
   answer_names ask of message sends numbered names =
       sent_one requested message sent sends
       (λ n is. (
         of.sent,
         subst (λ x. request_numbered requested x ≡ Some of.sent) (same_Some k n (sym numbered ∙ is)) of.is,
-        subst (λ u. NamesFor of.sent.ask u (pos of.sent.version) message) (sym of.about) (subst (λ x. NamesFor x uri (pos of.sent.version) message) (sym of.asks_this) names),
+        subst (λ u. NamesFor of.sent.ask u of.sent.version message) (sym of.about) (subst (λ x. NamesFor x uri of.sent.version message) (sym of.asks_this) names),
       ))
 
   refusal_names : (ask : Ask) (of : IsAsk requested k uri ask) (code : ℤ) (why : List ℕ) (message : Data) → Sends message sent → message ≡ error_message (number (unsigned k)) code why → All (NamesItsAsk requested) sent
   refusal_names ask of code why message sends is = answer_names ask of (error_message (number (unsigned k)) code why) (subst (λ m. Sends m sent) is sends) refl (inr (inl refl))
 
   rename_names : (position : Position) (name : List ℕ) (of : IsAsk requested k uri (rename position name)) (client : Client) (unit : Unit) (text : List ℕ) → client.takes_document_changes ≡ true
-      → SaysReply (renames unit (record { id = number (unsigned k); client = client; at = record { uri = uri; position = position }; version = pos of.sent.version; new = name }) text) sent → All (NamesItsAsk requested) sent
+      → SaysReply (renames unit (record { id = number (unsigned k); client = client; at = record { uri = uri; position = position }; version = of.sent.version; new = name }) text) sent → All (NamesItsAsk requested) sent
   rename_names position name of client unit text takes (message, how, sends) = go how
     where
       request : RequestedRename
-      request = record { id = number (unsigned k); client = client; at = record { uri = uri; position = position }; version = pos of.sent.version; new = name }
+      request = record { id = number (unsigned k); client = client; at = record { uri = uri; position = position }; version = of.sent.version; new = name }
 
       go : AnswersRenaming unit request text message → All (NamesItsAsk requested) sent
       go (inl (edits, found, is)) =
-          answer_names (rename position name) of (result_message (number (unsigned k)) (workspace_edit client uri (pos of.sent.version) edits)) (subst (λ m. Sends m sent) is sends) refl (inl (edit_names client uri (pos of.sent.version) edits takes))
+          answer_names (rename position name) of (result_message (number (unsigned k)) (workspace_edit client uri of.sent.version edits)) (subst (λ m. Sends m sent) is sends) refl (inl (edit_names client uri of.sent.version edits takes))
       go (inr (inl (refusal, why, is))) = refusal_names (rename position name) of (minus 32803) (refusal_text refusal) message sends is
       go (inr (inr (unfit, is))) = refusal_names (rename position name) of (minus 32803) (codes "ill-typed") message sends is
 
   inline_names : (how : Inlining) (position : Position) (of : IsAsk requested k uri (inlining_at how position)) (client : Client) (unit : Unit) (text : List ℕ) → client.takes_document_changes ≡ true
-      → SaysReply (offers_actions unit (actions_requested_at client (number (unsigned k)) uri position (pos of.sent.version)) text) sent → All (NamesItsAsk requested) sent
+      → SaysReply (offers_actions unit (actions_requested_at client (number (unsigned k)) uri position of.sent.version) text) sent → All (NamesItsAsk requested) sent
   inline_names how position of client unit text takes (message, (value, listed, is), sends) = go listed
     where
       request : RequestedActions
-      request = actions_requested_at client (number (unsigned k)) uri position (pos of.sent.version)
+      request = actions_requested_at client (number (unsigned k)) uri position of.sent.version
 
-      names_edit : (edits : List Edit) → named_by_edit (workspace_edit client uri (pos of.sent.version) edits) ≡ Some (uri, pos of.sent.version)
-      names_edit edits = edit_names client uri (pos of.sent.version) edits takes
+      names_edit : (edits : List Edit) → named_by_edit (workspace_edit client uri of.sent.version edits) ≡ Some (uri, of.sent.version)
+      names_edit edits = edit_names client uri of.sent.version edits takes
 
-      offered : (how : Inlining) (here everywhere : Option (Vec Edit Global)) → NamesFor (inlining_at how position) uri (pos of.sent.version) (result_message (number (unsigned k)) (actions_value request here everywhere))
+      offered : (how : Inlining) (here everywhere : Option (Vec Edit Global)) → NamesFor (inlining_at how position) uri of.sent.version (result_message (number (unsigned k)) (actions_value request here everywhere))
       offered Here (Some edits) everywhere = inl (names_edit edits.items)
       offered Here None (Some other) = inr (inl refl)
       offered Here None None = inr (inl refl)
@@ -228,12 +228,12 @@ module _ (requested : List SentAsk) (k : ℕ) (uri : List ℕ) (sent : List (Lis
       offered Everywhere (Some other) None = inr (inl refl)
       offered Everywhere None None = inr (inl refl)
 
-      with_value : (v : Data) → value ≡ v → NamesFor (inlining_at how position) uri (pos of.sent.version) (result_message (number (unsigned k)) v) → All (NamesItsAsk requested) sent
+      with_value : (v : Data) → value ≡ v → NamesFor (inlining_at how position) uri of.sent.version (result_message (number (unsigned k)) v) → All (NamesItsAsk requested) sent
       with_value v same names = answer_names (inlining_at how position) of (result_message (number (unsigned k)) v) (subst (λ m. Sends m sent) (is ∙ ap (result_message (number (unsigned k))) same) sends) refl names
 
       go : ListsActions unit request text value → All (NamesItsAsk requested) sent
       go (inl h) = with_value (actions_value request h.here h.everywhere) h.listed (offered how h.here h.everywhere)
-      go (inr (why, none)) = with_value (array no_items) none (inr (inl (none_read_back how position (number (unsigned k)))))
+      go (inr (why, none)) = with_value (array no_items) none (inr (inl (none_read_back how position uri (number (unsigned k)))))
 
   layout_names : (indent : Indent) (of : IsAsk requested k uri (format indent)) (unit : Unit) (text : List ℕ) → SaysReply (lays_out unit (number (unsigned k)) (indent_read indent) text) sent → All (NamesItsAsk requested) sent
   layout_names indent of unit text (message, how, sends) = go how
@@ -244,7 +244,7 @@ module _ (requested : List SentAsk) (k : ℕ) (uri : List ℕ) (sent : List (Lis
       go (inr (inr (unfit, is))) = refusal_names (format indent) of (minus 32803) (codes "ill-typed") message sends is
 
   -- `NamesItsAsk` holds of the answer of a running session to a request about a document in step.
-  request_names : (ask : Ask) (of : IsAsk requested k uri ask) (params : Data) (before : ServerState) (text : List ℕ) → IsRunning before → document_at before.held uri ≡ Some (InStep (pos of.sent.version) text) → request_by_method (method_of ask) params ≡ Ok (call_for uri ask)
+  request_names : (ask : Ask) (of : IsAsk requested k uri ask) (params : Data) (before : ServerState) (text : List ℕ) → IsRunning before → document_at before.held uri ≡ Some (InStep of.sent.version text) → request_by_method (method_of ask) params ≡ Ok (call_for uri ask)
       → SaysReply (answer_method before (number (unsigned k)) (method_of ask) params).say sent → All (NamesItsAsk requested) sent
   request_names (rename position name) of params before text running holds call saying =
       let id : Data = number (unsigned k) in
@@ -278,7 +278,7 @@ content_names requested (notifies note) before after content sent running is h m
 content_names requested (requests k uri ask) before after content sent running (is, of) h (meets, none) =
     let answer = request_reaction (number (unsigned k)) uri ask before after content sent running.0 is h in
     let same : meets.sent ≡ of.sent = same_Some meets.sent of.sent (sym meets.is ∙ of.is) in
-    let holds : document_at before.held uri ≡ Some (InStep (pos of.sent.version) meets.text) = subst (λ (a : SentAsk). document_at before.held uri ≡ Some (InStep (pos a.version) meets.text)) same meets.holds in
+    let holds : document_at before.held uri ≡ Some (InStep of.sent.version meets.text) = subst (λ (a : SentAsk). document_at before.held uri ≡ Some (InStep a.version meets.text)) same meets.holds in
     request_names requested k uri sent ask of is.params before meets.text running holds is.calls answer.1
 
 -- ---- each event
@@ -404,8 +404,8 @@ versions_suffice e k a edits numbered not_reopened = go (open_at e a.uri) refl �
     of_version d true = refl
     of_version d false = refl
 
-    go : (o : Option Open) → open_at e a.uri ≡ o → option_and_then (λ d. option_and_then (makes a.uri d) (cond (d.version == a.version) (edited e.unit d.text edits) None)) o ≡ option_and_then (then_open a.uri) (option_and_then (if_same a) o)
+    go : (o : Option Open) → open_at e a.uri ≡ o → option_and_then (λ d. option_and_then (makes a.uri d) (cond (same_version d.version a.version) (edited e.unit d.text edits) None)) o ≡ option_and_then (then_open a.uri) (option_and_then (if_same a) o)
     go None is = refl
     go (Some d) is =
-        of_version d (d.version == a.version)
-        ∙ ap (λ b. option_and_then (then_open a.uri) (cond (b && d.version == a.version) (Some d) None)) (sym (eq-eqb d.opening a.opening (not_reopened d is)))
+        of_version d (same_version d.version a.version)
+        ∙ ap (λ b. option_and_then (then_open a.uri) (cond (b && same_version d.version a.version) (Some d) None)) (sym (eq-eqb d.opening a.opening (not_reopened d is)))

@@ -26,11 +26,11 @@ module _ (f g : Data → Option ℕ) (requested more : List SentAsk) (grows : (d
   answer_still d None m h = absurd (none-some m h)
   answer_still d (Some id) m h = go (f id) refl h
     where
-      at : (k : ℕ) (o : Option SentAsk) → f id ≡ Some k → request_numbered requested k ≡ o → option_map (λ (a : SentAsk). answers k (edits_for a.ask d)) o ≡ Some m → option_and_then (answer_to (requested ++ more) d) (g id) ≡ Some m
+      at : (k : ℕ) (o : Option SentAsk) → f id ≡ Some k → request_numbered requested k ≡ o → option_map (λ (a : SentAsk). answers k (edits_for a.uri a.ask d)) o ≡ Some m → option_and_then (answer_to (requested ++ more) d) (g id) ≡ Some m
       at k None named is h = absurd (none-some m h)
       at k (Some a) named is h =
           ap (option_and_then (answer_to (requested ++ more) d)) (grows id k a is named)
-          ∙ ap (option_map (λ (a : SentAsk). answers k (edits_for a.ask d))) (numbered_push requested more k a is) ∙ h
+          ∙ ap (option_map (λ (a : SentAsk). answers k (edits_for a.uri a.ask d))) (numbered_push requested more k a is) ∙ h
 
       go : (o : Option ℕ) → f id ≡ o → option_and_then (answer_to requested d) o ≡ Some m → option_and_then (answer_to (requested ++ more) d) (g id) ≡ Some m
       go None named h = absurd (none-some m h)

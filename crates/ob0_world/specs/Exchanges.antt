@@ -2,7 +2,7 @@
 -- guarantees for them. The session may be any that the protocol (`Answers`) allows: no server of
 -- the model is part of it.
 -- Rule: LSP 3.17; for a law of every editor with a session.
-use Rattle.std.specs.Prelude.{◌≡◌, ◌⊎◌, ◌<◌, ◌≤◌, ◌==◌, map, filter_map, ⊤, ℕ, ℤ, pos, List, [], ◌∷◌, ◌++◌, All, fold, Bool, true, false, Option, Some, None, MatchOption, option_map, option_and_then, Result, Ok, Err, if◌then◌else◌, codes}
+use Rattle.std.specs.Prelude.{◌≡◌, ◌⊎◌, ◌<◌, ◌≤◌, ◌==◌, map, filter_map, ⊤, ℕ, ℤ, List, [], ◌∷◌, ◌++◌, All, fold, Bool, true, false, Option, Some, None, MatchOption, option_map, option_and_then, Result, Ok, Err, if◌then◌else◌, codes}
 use Rattle.std.specs.Str.{bytes_eq}
 use Rattle.serde_json.specs.Data.{Data, null, boolean, number, string, array, object, unsigned, negative, float}
 use Rattle.ob0_text.specs.declared.position_types.Position.{Position}
@@ -147,10 +147,11 @@ IsQuestion (Ok (asked.formatting uri indent)) = ⊤
 IsQuestion (Err fault) = ⊤
 
 -- Holds if a message opens, changes and closes no document, and requests no edit that is applied.
--- That is a request that changes nothing, a notification that the server ignores, or a response.
+-- That is a request that changes nothing, a notification that the server ignores, a response, or JSON
+-- that is no message, which the server refuses.
 abbrev pub IsOtherMessage : List SentId → MessageMeaning → Type 0
 IsOtherMessage ids not_json = ⊥
-IsOtherMessage ids not_a_message = ⊥
+IsOtherMessage ids not_a_message = ⊤
 IsOtherMessage ids response = ⊤
 IsOtherMessage ids (request id method params) =
     (bytes_eq method (codes "initialize") ≡ false)
@@ -195,14 +196,13 @@ IsRequestFor id uri (inline_here position) content = IsActionsRequest id uri pos
 IsRequestFor id uri (inline_all position) content = IsActionsRequest id uri position content
 IsRequestFor id uri (format indent) content = IsRequestWithId id uri (format indent) content
 
--- holds if the client accepts code actions with edits, and edits with document versions
+-- holds if the client accepts code actions with edits
 abbrev pub TakesActions : Client → Type 0
-TakesActions client =
-    (client.takes_document_changes ≡ true) × (client.takes_literal_actions ≡ true)
+TakesActions client = client.takes_literal_actions ≡ true
 
 -- holds if the client accepts the edits of this ask
 abbrev pub TakesEdits : Client → Ask → Type 0
-TakesEdits client (rename position name) = client.takes_document_changes ≡ true
+TakesEdits client (rename position name) = ⊤
 TakesEdits client (inline_here position) = TakesActions client
 TakesEdits client (inline_all position) = TakesActions client
 TakesEdits client (format indent) = ⊤
@@ -411,7 +411,7 @@ abbrev pub AreRightOf : List Published → List Announced → Type 0
 AreRightOf [] [] = ⊤
 AreRightOf (p ∷ published) (t ∷ announced) =
     (p.uri ≡ t.uri)
-    × (p.version ≡ pos t.document.version)
+    × (p.version ≡ t.document.version)
     × IsEmptyIfCorrect t.document.text p.empty
     × AreRightOf published announced
 AreRightOf [] (t ∷ announced) = ⊥
@@ -446,7 +446,7 @@ pub record HoldsOfExchange (begin now : Exchange) : Type 0 where
   pub latest : notes_in now.wire.to_server ≡ [] → (uri : List ℕ) (d : Open)
       → open_at now.editor uri ≡ Some d
       → MatchOption (last_published uri (published_in since)) ⊥
-      (λ p. (p.version ≡ pos d.version) × IsEmptyIfCorrect d.text p.empty)
+      (λ p. (p.version ≡ d.version) × IsEmptyIfCorrect d.text p.empty)
   -- once the session has taken the waiting contents, its documents are the editor's
   pub mirrors : (uri : List ℕ)
       → document_at (fold after_message now.wire.session.held (notes_in now.wire.to_server)) uri

@@ -5,7 +5,7 @@
 -- requested (`Waiting`).
 -- `IsRunning` states that the session serves this editor: by the editor's `initialize`, its client
 -- accepts edits with document versions, and literal code actions. So a WorkspaceEdit is always
--- written as `documentChanges`, and the editor reads only that form.
+-- written as `documentChanges`.
 -- Rule: none; for contracts: contents that wait, and what they say.
 use Rattle.std.specs.Prelude.{◌≡◌, ◌≤◌, ◌⊎◌, ℕ, ℤ, List, [], ◌∷◌, ◌++◌, map, length, All, Bool, true, Option, Some, None, Vec, option_and_then, filter_map}
 use Rattle.std.specs.declared.alloc.Global.{Global}
@@ -18,6 +18,7 @@ use Rattle.ob0_world_editor.specs.Understood.{understood}
 use Rattle.ob0_world_editor.specs.Code.{applied_of}
 use Rattle.ob0_world_editor.specs.declared.applied.Applied as applied
 use Rattle.ob0_world_rules.specs.ClientAndServer.{Open, SentAsk, Editor, open_at, ToServer, ToEditor, publishes, answers, Made, ClientAndServer, start}
+use Rattle.ob0_world_rules.specs.Editing.{counted}
 use Rattle.ob0_world_rules.specs.Happens.{Event, Course}
 use Rattle.ob0_world.specs.declared.events.Seen as seen
 use Rattle.ob0_world.specs.declared.played.Made as made
@@ -143,7 +144,7 @@ connection_from e to_server session to_editor applied made taken got =
 pub record Within (n : ℕ) (e : Editor) : Type 0 where
   pub openings : e.openings ≤ n
   pub asks : length e.requested ≤ n
-  pub versions : (uri : List ℕ) (d : Open) → open_at e uri ≡ Some d → d.version ≤ n
+  pub versions : (uri : List ℕ) (d : Open) → open_at e uri ≡ Some d → counted d.version ≤ n
 
 -- holds if some events lead from the start to this state
 abbrev pub IsReached : ClientAndServer → Type 0

@@ -2,7 +2,7 @@
 -- A client doesn't number openings. A version is enough, because an answer mentions the document
 -- that was asked about with the version that it had then.
 -- Rule: none; laws of client and server, on LSP 3.17, OptionalVersionedTextDocumentIdentifier.
-use Rattle.std.specs.Prelude.{◌≡◌, ◌⊎◌, ⊤, ℕ, ℤ, pos, negsuc, List, [], ◌∷◌, ◌==◌, All, Bool, false, Option, Some, None, option_and_then, option_map, if◌then◌else◌, codes}
+use Rattle.std.specs.Prelude.{◌≡◌, ◌⊎◌, ⊤, ℕ, ℤ, List, [], ◌∷◌, All, Bool, Option, Some, None, option_and_then, option_map, if◌then◌else◌, codes}
 use Rattle.serde_json.specs.Data.{Data}
 use Rattle.serde_json.specs.Find.{get, at, as_array, as_number, as_integer}
 use Rattle.ob0_text.specs.declared.position_types.Unit.{Unit}
@@ -12,7 +12,7 @@ use Rattle.ob0_world_editor.specs.Heard.{request_number}
 use Rattle.ob0_world_editor.specs.Understood.{titled_action, edits_for}
 use Rattle.ob0_world_rules.specs.Asks.{Ask, rename, inline_here, inline_all, format}
 use Rattle.ob0_world_rules.specs.Edited.{Replacement, edited, whole_text}
-use Rattle.ob0_world_rules.specs.Editing.{Done, rewrites, applies}
+use Rattle.ob0_world_rules.specs.Editing.{Done, same_version, rewrites, applies}
 use Rattle.ob0_world_rules.specs.ClientAndServer.{Open, SentAsk, Editor, request_numbered, open_at}
 use Rattle.ob0_world_rules.specs.Happens.{Event}
 use Rattle.ob0_world.specs.Worlds.{Connection, Begins, ConnectionCourse}
@@ -64,8 +64,8 @@ IsLayout (format indent) = ⊤
 -- it had then. An answer to a formatting needn't mention it.
 abbrev pub NamesAsked : SentAsk → Data → Type 0
 NamesAsked a answer =
-    (named_in a.ask answer ≡ Some (a.uri, pos a.version))
-    ⊎ ((edits_for a.ask answer ≡ []) ⊎ IsLayout a.ask)
+    (named_in a.ask answer ≡ Some (a.uri, a.version))
+    ⊎ ((edits_for a.uri a.ask answer ≡ []) ⊎ IsLayout a.ask)
 
 -- holds if the content has no number as its id, or answers the request with that number as
 -- `NamesAsked` says
@@ -89,8 +89,7 @@ VersionsAreNamed =
 
 -- true if a document has this version
 abbrev pub has_version : ℤ → Open → Bool
-has_version (pos v) d = d.version == v
-has_version (negsuc v) d = false
+has_version version d = same_version d.version version
 
 -- Returns the result for a client that compares the uri and the version in an answer. It makes the
 -- edits in the document that is open under this uri. None if no such document has this version, or
@@ -116,4 +115,4 @@ VersionsSuffice =
     (e : Editor) (k : ℕ) (a : SentAsk) (edits : List Replacement)
     → request_numbered e.requested k ≡ Some a
     → IsNotReopened e a
-    → applies_by_version e a.uri (pos a.version) edits ≡ applies e k edits
+    → applies_by_version e a.uri a.version edits ≡ applies e k edits

@@ -15,7 +15,7 @@ use Rattle.ob0_session_server.specs.Steps.{IsGoingOn}
 use Rattle.ob0_session_server.specs.declared.session.Phase.TheVariants.{Ended}
 use Rattle.ob0_session.specs.declared.serving.ServeFault.{ServeFault}
 use Rattle.ob0_session.specs.declared.serving.ServeFault.TheVariants.{BadHead, Truncated, Read, Write, Memory, TooManyReads}
-use Rattle.ob0_world_determined.specs.Determined.{ConversationIsServed, ConversationIsServedFirst, IsDecided, IsOfBytes, IsWritten, MayServe, OneConversation, OneResult}
+use Rattle.ob0_world_determined.specs.Determined.{ConversationIsServed, ConversationIsServedFirst, EndedConversationIsServed, IsDecided, IsOfBytes, IsWritten, MayServe, OneConversation, OneResult}
 use Rattle.ob0_world_determined.proofs.Conversations.{Contents}
 use Rattle.ob0_world_determined.proofs.Fronts.{Framed, fed_front}
 
@@ -276,3 +276,43 @@ pub conversation_is_served : OneConversation → OneFeed → Feeds (Open []) [] 
 conversation_is_served one feeds nothing read taken sent after small talk put result written served =
     let e = ending_of result (flat_map frame taken) put written served in
     frames_sent one feeds taken sent after talk (read taken small, nothing.1) put e.0 e.1
+
+-- ---- the frames of a conversation that ended
+
+module _ (one : OneConversation) (feeds : OneFeed) (taken sent : Contents) (after : ServerState) (status : ℕ) (talk : Conversation start taken sent after) (over : after.phase ≡ Ended status) (fed : Feeds (Open []) (flat_map frame taken) taken (Open [])) (more : List ℕ) where
+  -- nothing is answered after it
+  nothing_more_said : (mid answered said : Contents) (end : ServerState) → answered ≡ taken ++ mid → Conversation start answered said end → (sent ≡ said) × (end ≡ after)
+  nothing_more_said mid answered said end is h =
+      longer one feeds (flat_map frame taken) status taken mid sent said after end over talk (subst (λ cs. Conversation start cs said end) is h)
+
+  no_rest : (put : List ℕ) (rest : Rest) → AllServed (flat_map frame taken ++ more) rest put → ⊥
+  no_rest put rest h =
+      let s = h.served in
+      let parts = fed_front (Open []) (Open []) rest (flat_map frame taken) more taken (s.answered ++ []) fed s.feeds in
+      let same = nothing_more_said parts.0 s.answered s.sent h.after (sym (append-nil s.answered) ∙ parts.1) s.conversation in
+      ended_goes_on one feeds (flat_map frame taken) status h.after (ap (λ (s : ServerState). s.phase) same.1 ∙ over) h.going
+
+  exit_one : (put : List ℕ) (found : ℕ) → EndsWith found (flat_map frame taken ++ more) put → (put ≡ flat_map frame sent) × (found ≡ status)
+  exit_one put found (h, ended) =
+      let s = h.served in
+      let parts = fed_front (Open []) (Open []) h.rest (flat_map frame taken) more taken (s.answered ++ h.waiting) fed s.feeds in
+      let same : (s.sent ≡ sent) × (h.after ≡ after) =
+      elim (begins_other s.answered h.waiting taken parts.0 parts.1) [
+        | inl (mid, is) ↦ (let back = longer one feeds (flat_map frame taken) found s.answered mid s.sent sent h.after after ended s.conversation (subst (λ cs. Conversation start cs sent after) is talk) in (back.0, sym back.1))
+        | inr (mid, is) ↦ (let on = nothing_more_said mid s.answered s.sent h.after is s.conversation in (sym on.0, on.1))
+      ] in
+      (s.frames ∙ ap (flat_map frame) same.0, same_status found status (sym ended ∙ ap (λ (s : ServerState). s.phase) same.1 ∙ over))
+
+  returned : (put : List ℕ) (result : Result ℕ ServeFault) → IsWritten result → MayServe result (flat_map frame taken ++ more) put → (put ≡ flat_map frame sent) × (result ≡ Ok status)
+  returned put (Ok found) written (r, w, (inl ends, none)) = let same = exit_one put found ends in (same.0, ap Ok same.1)
+  returned put (Ok found) written (r, w, (inr (all, at_end, is), none)) = absurd (no_rest put (Open []) all)
+  returned put (Err BadHead) written (r, w, (all, none)) = absurd (no_rest put Broken all)
+  returned put (Err Truncated) written (r, w, ((left, all, some, at_end), none)) = absurd (no_rest put (Open left) all)
+  returned put (Err Read) written (r, w, ((left, all), failed, writes, flushed)) = absurd (no_rest put (Open left) all)
+  returned put (Err TooManyReads) written (r, w, ((left, all, long, often), none)) = absurd (no_rest put (Open left) all)
+  returned put (Err Write) written served = absurd (written.1 refl)
+  returned put (Err Memory) written served = absurd (written.0 refl)
+
+pub ended_conversation_is_served : OneConversation → OneFeed → Feeds (Open []) [] [] (Open []) → ((contents : Contents) → All (λ content. length content ≤ max_content) contents → Frames (flat_map frame contents) contents []) → EndedConversationIsServed
+ended_conversation_is_served one feeds nothing read taken sent after status small talk over more put result written served =
+    returned one feeds taken sent after status talk over (read taken small, nothing.1) more put result written served

@@ -9,6 +9,7 @@ use Rattle.ob0_scope_table.specs.Resolution.{Resolution, IsResolution, ordinal_i
 use Rattle.ob0_tree.specs.Parsed.{Parsed, tree_of}
 use Rattle.ob0_analysis.specs.Diagnosed.{Complaint, Reports}
 use Rattle.ob0_session_server.specs.Answers.{ServerState, start, Reply, SaysReply, Answers, Conversation}
+use Rattle.ob0_session_server.specs.declared.session.Phase.TheVariants.{Ended}
 use Rattle.ob0_session.specs.Serving.{EndsWith, Serves}
 use Rattle.ob0_session.specs.declared.serving.ServeFault.{ServeFault}
 use Rattle.ob0_session.specs.declared.serving.ServeFault.TheVariants.{BadHead, Truncated, Read, Write, Memory, TooManyReads}
@@ -139,3 +140,15 @@ ConversationIsServedFirst =
     → (more put : List ℕ) (result : Result ℕ ServeFault) → IsWritten result
     → MayServe result (flat_map frame taken ++ more) put
     → (later : List ℕ) × (put ≡ flat_map frame sent ++ later)
+
+-- States that for a longer input that begins with the frames of a conversation that ended `serve` writes
+-- the frames of what was sent and no byte more, and returns the status with which it ended.
+abbrev pub EndedConversationIsServed : Type 0
+EndedConversationIsServed =
+    (taken sent : List (List ℕ)) (after : ServerState) (status : ℕ)
+    → All (λ content. length content ≤ max_content) taken
+    → Conversation start taken sent after
+    → after.phase ≡ Ended status
+    → (more put : List ℕ) (result : Result ℕ ServeFault) → IsWritten result
+    → MayServe result (flat_map frame taken ++ more) put
+    → (put ≡ flat_map frame sent) × (result ≡ Ok status)

@@ -1,6 +1,6 @@
 -- States the headline in bytes, for `serve` and an editor that keeps ob0's rules.
 -- Rule: docs/PROMISES.md, Client and server.
-use Rattle.std.specs.Prelude.{◌≡◌, ◌≤◌, ◌++◌, ℕ, List, [], ◌∷◌, length, All, Result}
+use Rattle.std.specs.Prelude.{◌≡◌, ◌≤◌, ◌++◌, ℕ, List, [], ◌∷◌, length, All, Result, Ok}
 use Rattle.std.specs.List.{flat_map}
 use Rattle.ob0_text.specs.declared.position_types.Unit.{Unit}
 use Rattle.ob0_frame.specs.Frames.{frame}
@@ -10,7 +10,7 @@ use Rattle.ob0_session.specs.declared.serving.ServeFault.{ServeFault}
 use Rattle.ob0_world_rules.specs.EveryEditor.{Turn}
 use Rattle.serde_json.specs.Data.{Data}
 use Rattle.ob0_session_server.specs.Answers.{ServerState, Conversation}
-use Rattle.ob0_world.specs.Exchanges.{Exchange, BeginsExchange, ExchangeLeads, IsShutdown, IsExit, EndsSession, HoldsOfExchange}
+use Rattle.ob0_world.specs.Exchanges.{Exchange, BeginsExchange, ExchangeLeads, IsShutdown, IsExit, HoldsOfExchange}
 use Rattle.ob0_world_determined.specs.Determined.{MayServe, IsWritten}
 
 -- Relates an exchange of a session and an editor that keeps ob0's rules to the bytes that `serve`
@@ -29,15 +29,14 @@ pub record ServedExchange (begin now : Exchange) : Type 0 where
       → MayServe result (flat_map frame now.wire.taken ++ more) put
       → (later : List ℕ) × (put ≡ flat_map frame (now.wire.got ++ now.wire.to_editor) ++ later)
   -- If the session then takes `shutdown` and `exit`, `serve` also writes the frame of the answer to
-  -- `shutdown`.
+  -- `shutdown`, and returns 0, whatever comes next.
   pub ended : (id : Data) (shutdown exit : List ℕ) → IsShutdown id shutdown → IsExit exit
       → (sent : List (List ℕ)) (end : ServerState)
       → Conversation now.wire.session (shutdown ∷ exit ∷ []) sent end
       → All (λ content. length content ≤ max_content) (now.wire.taken ++ shutdown ∷ exit ∷ [])
-      → (put : List ℕ) (result : Result ℕ ServeFault) → IsWritten result
-      → MayServe result (flat_map frame (now.wire.taken ++ shutdown ∷ exit ∷ [])) put
-      → EndsSession id now.wire.session sent end
-      × (put ≡ flat_map frame ((now.wire.got ++ now.wire.to_editor) ++ sent))
+      → (more put : List ℕ) (result : Result ℕ ServeFault) → IsWritten result
+      → MayServe result (flat_map frame (now.wire.taken ++ shutdown ∷ exit ∷ []) ++ more) put
+      → (put ≡ flat_map frame ((now.wire.got ++ now.wire.to_editor) ++ sent)) × (result ≡ Ok 0)
   -- If `serve` returns `Memory`, it has answered the first contents that it read. If these are the
   -- contents that the session took, it has written the same frames.
   pub in_part : (taken put : List ℕ) (part : PrefixServed taken put)

@@ -1,5 +1,5 @@
 //! States the laws of the definitions that contracts cite.
-ghost use Rattle.ob0_world_determined.specs.Determined.{AListFits, ConversationIsServed, ConversationIsServedFirst, OneAnswer, OneConversation, OneDiagnosis, OneOutput, OneReply, OneResult, OneTable};
+ghost use Rattle.ob0_world_determined.specs.Determined.{AListFits, ConversationIsServed, ConversationIsServedFirst, EndedConversationIsServed, OneAnswer, OneConversation, OneDiagnosis, OneOutput, OneReply, OneResult, OneTable};
 ghost use Rattle.ob0_world_determined.specs.Exchanged.{EveryExchangeIsServed};
 
 use ob0_analysis::laws::one_refusal;
@@ -93,6 +93,18 @@ pub fn a_conversation_is_served_first()
     written_is_read();
 }
 
+/// States that `serve`, fed with a longer input that begins with the frames of a conversation that ended, writes the
+/// frames of the contents that the session sent, and no more. It returns the status with which the conversation ended.
+/// This holds unless `serve` returns `Memory` or `Write`.
+pub fn an_ended_conversation_is_served()
+    ensures { EndedConversationIsServed }
+{
+    one_conversation();
+    feeding_is_determined();
+    nothing_is_fed();
+    written_is_read();
+}
+
 /// Proves the headline for `serve` and every editor that keeps ob0's rules. The guarantees of `HoldsOfExchange` hold.
 /// Fed with the frames of the contents that the session took, `serve` writes the frames of the contents that it sent.
 /// This holds unless `serve` returns `Memory` or `Write`, and if no content taken has more than `max_content` bytes. If
@@ -103,5 +115,6 @@ pub fn every_exchange_is_served()
     every_exchange_holds();
     a_conversation_is_served();
     a_conversation_is_served_first();
+    an_ended_conversation_is_served();
     one_conversation();
 }

@@ -1,6 +1,6 @@
 -- Defines the meaning of the code's asks, answers, messages and applied edits.
 -- Rule: none; for contracts: what values of the code mean.
-use Rattle.std.specs.Prelude.{string_bytes}
+use Rattle.std.specs.Prelude.{pos, string_bytes}
 use Rattle.std.specs.Str.{chars}
 use Rattle.ob0_world_editor.specs.declared.asks.Ask as ask
 use Rattle.ob0_world_editor.specs.declared.editor.SentAsk as requested
@@ -26,7 +26,7 @@ requested_of a =
       uri = string_bytes a.uri;
       text = chars (string_bytes a.text);
       opening = a.opening;
-      version = a.version;
+      version = pos a.version;
     }
 
 -- returns the answer that a value of the code means

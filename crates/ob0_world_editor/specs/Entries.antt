@@ -1,16 +1,16 @@
 -- Defines the meaning of the stored documents.
 -- Rule: none; for contracts: what values of the code mean.
-use Rattle.std.specs.Prelude.{ℕ, List, map, string_bytes, String, refl}
+use Rattle.std.specs.Prelude.{ℕ, ℤ, pos, List, map, string_bytes, String, refl}
 use Rattle.std.specs.Str.{chars}
 use Rattle.std.specs.FinMap as map_of
-use Rattle.std.specs.Coded.{Coded, code_by, coded×, coded_ℕ, coded_list}
+use Rattle.std.specs.Coded.{Coded, code_by, coded×, coded_ℕ, coded_ℤ, coded_list}
 use Rattle.ob0_world_editor.specs.declared.documents.Open as stored
 use Rattle.ob0_world_rules.specs.ClientAndServer.{Open, EditorDocuments}
 
 -- returns the open document that a value of the code means
 abbrev pub open_document : stored.Open → Open
 open_document d =
-    record { version = d.version; text = chars (string_bytes d.text); opening = d.opening }
+    record { version = pos d.version; text = chars (string_bytes d.text); opening = d.opening }
 
 -- returns the open documents as a map from the bytes of their uris
 abbrev pub editor_documents : {A : Type 0} → List (String A × stored.Open) → EditorDocuments
@@ -20,7 +20,7 @@ editor_documents entries =
 -- the encoding of an open document as the tuple of its fields
 abbrev pub open_code : Coded Open
 open_code =
-    code_by (ℕ × (List ℕ × ℕ)) (coded× coded_ℕ (coded× (coded_list coded_ℕ) coded_ℕ))
+    code_by (ℤ × (List ℕ × ℕ)) (coded× coded_ℤ (coded× (coded_list coded_ℕ) coded_ℕ))
     (λ d. (d.version, (d.text, d.opening)))
     (λ p. record { version = p.0; text = p.1.0; opening = p.1.1 }) (λ d. refl)
 

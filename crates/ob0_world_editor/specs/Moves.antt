@@ -7,7 +7,7 @@ use Rattle.std.specs.declared.alloc.Global.{Global}
 use Rattle.ob0_text.specs.OpenDocuments.{Changed}
 use Rattle.ob0_world_rules.specs.Edited.{Replacement, whole_text}
 use Rattle.ob0_world_rules.specs.ClientAndServer.{Open, SentAsk, Applied, Editor, open_at, ToServer, notifies}
-use Rattle.ob0_world_rules.specs.Editing.{Done, rewrites, kept_answer, all_but}
+use Rattle.ob0_world_rules.specs.Editing.{counted, Done, rewrites, kept_answer, all_but}
 use Rattle.ob0_world_editor.specs.Code.{answer_of, applied_of}
 use Rattle.ob0_world_rules.specs.Edited.{replacements}
 use Rattle.ob0_world_editor.specs.Heard.{SaysToServer}
@@ -19,7 +19,7 @@ use Rattle.ob0_world_editor.specs.declared.editor.Rewritten as rewritten
 pub record AreFew (e : Editor) : Type 0 where
   pub openings : e.openings < 2 ^ 63 - 1
   pub asks : length e.requested < 2 ^ 63 - 1
-  pub versions : (uri : List ℕ) (d : Open) → open_at e uri ≡ Some d → d.version < 2 ^ 63 - 1
+  pub versions : (uri : List ℕ) (d : Open) → open_at e uri ≡ Some d → counted d.version < 2 ^ 63 - 1
 
 -- true if there is an edit
 abbrev pub has_edits : List Replacement → Bool
@@ -68,7 +68,7 @@ with_text e r =
     record e {
       documents
           = map_of.insert e.documents a.uri
-          (record { version = r.version; text = a.after; opening = r.opening });
+          (record { version = pos r.version; text = a.after; opening = r.opening });
     }
 
 -- returns the notification of a document's new text

@@ -56,11 +56,17 @@ abbrev pub edits_in : Items → Option (List Replacement)
 edits_in no_items = Some []
 edits_in (item d ds) = option_and_then (λ e. option_map (λ es. e ∷ es) (edits_in ds)) (edit_in d)
 
--- Returns the list of edits of the first document in a WorkspaceEdit. None if there is none.
-abbrev pub workspace_items : Data → Option Items
-workspace_items value =
-    option_and_then as_array (option_and_then (get (codes "edits"))
-    (option_and_then (at 0) (get (codes "documentChanges") value)))
+-- Returns the list of edits of a document in a WorkspaceEdit, or None. If there are
+-- `documentChanges`, it has the edits of the first. Otherwise `changes` has the edits of each uri.
+abbrev pub document_items : List ℕ → Data → Option Data → Option Items
+document_items uri edit (Some documents) =
+    option_and_then as_array (option_and_then (get (codes "edits")) (at 0 documents))
+document_items uri edit None =
+    option_and_then as_array (option_and_then (get uri) (get (codes "changes") edit))
+
+-- the same by the members of the WorkspaceEdit
+abbrev pub workspace_items : List ℕ → Data → Option Items
+workspace_items uri edit = document_items uri edit (get (codes "documentChanges") edit)
 
 -- Returns the first action with this title. None if there is none.
 abbrev pub titled_action : List ℕ → Items → Option Data
@@ -69,31 +75,31 @@ titled_action title (item d ds) =
     if is_text title (text_member (codes "title") d) then Some d else titled_action title ds
 
 -- Returns the list of edits of the first action with this title. None if there is none.
-abbrev pub action_items : List ℕ → Data → Option Items
-action_items title value =
-    option_and_then workspace_items
+abbrev pub action_items : List ℕ → List ℕ → Data → Option Items
+action_items title uri value =
+    option_and_then (workspace_items uri)
     (option_and_then (get (codes "edit")) (option_and_then (titled_action title) (as_array value)))
 
 -- Returns the list of edits in the result of an ask, or None. The result of a rename is a
 -- WorkspaceEdit. An inlining has a list of actions, one of which has the title that was asked for.
 -- A formatting has a list of edits.
-abbrev pub items_for : Ask → Data → Option Items
-items_for (rename position name) value = workspace_items value
-items_for (inline_here position) value = action_items (codes "Inline here") value
-items_for (inline_all position) value = action_items (codes "Inline everywhere") value
-items_for (format indent) value = as_array value
+abbrev pub items_for : List ℕ → Ask → Data → Option Items
+items_for uri (rename position name) value = workspace_items uri value
+items_for uri (inline_here position) value = action_items (codes "Inline here") uri value
+items_for uri (inline_all position) value = action_items (codes "Inline everywhere") uri value
+items_for uri (format indent) value = as_array value
 
 -- Returns the edits of an answer. A refusal, null and edits that can't be read give an empty list.
-abbrev pub edits_for : Ask → Data → List Replacement
-edits_for ask answer =
+abbrev pub edits_for : List ℕ → Ask → Data → List Replacement
+edits_for uri ask answer =
     unwrap_or
-    (option_and_then edits_in (option_and_then (items_for ask) (get (codes "result") answer))) []
+    (option_and_then edits_in (option_and_then (items_for uri ask) (get (codes "result") answer))) []
 
 -- Returns the answer to the request with this number, with its edits. None if there is no such
 -- request.
 abbrev pub answer_to : List SentAsk → Data → ℕ → Option ToEditor
 answer_to requested answer k =
-    option_map (λ a. answers k (edits_for a.ask answer)) (request_numbered requested k)
+    option_map (λ a. answers k (edits_for a.uri a.ask answer)) (request_numbered requested k)
 
 -- Returns the answer to an ask that a JSON value means. `number_of` finds the ask's number from the
 -- answer's id.

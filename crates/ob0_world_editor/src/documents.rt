@@ -1,5 +1,5 @@
 //! The documents that are open in the editor.
-ghost use Rattle.std.specs.Prelude.{◌≡◌, IfOk, OnErr, OnOk};
+ghost use Rattle.std.specs.Prelude.{◌≡◌, pos, IfOk, OnErr, OnOk};
 ghost use Rattle.std.specs.Option.{option_map};
 ghost use Rattle.std.specs.Str.{chars};
 ghost use Rattle.std.specs.FinMap as map_of;
@@ -27,7 +27,7 @@ impl Open {
         opening: u64,
     ) -> Result<Open, AllocError>
         ensures { IfOk result (λ d. open_document d
-            ≡ record { version = version; text = chars text.now; opening = opening }) }
+            ≡ record { version = pos version; text = chars text.now; opening = opening }) }
     {
         let text = String::from_str(alloc, text)?;
         Ok(Open {

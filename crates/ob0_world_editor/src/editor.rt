@@ -6,7 +6,7 @@
 //!
 //! A document's text is a `String`. A text store is made for each change or edit, so the editor needs no invariant on
 //! units.
-ghost use Rattle.std.specs.Prelude.{◌≡◌, IfOk, OnOk, OnErr, map, option_map, is_some, ◌<◌, ◌-◌, ◌^◌, string_bytes};
+ghost use Rattle.std.specs.Prelude.{◌≡◌, IfOk, OnOk, OnErr, map, option_map, is_some, ◌<◌, ◌-◌, ◌^◌, pos, string_bytes};
 ghost use Rattle.std.specs.Str.{chars};
 ghost use Rattle.ob0_text.specs.OpenDocuments.{change_in_text};
 ghost use Rattle.ob0_world_rules.specs.ClientAndServer.{answers, new_editor};
@@ -320,7 +320,7 @@ fn sent_ask(alloc: Global, ask: &Ask, uri: &str, document: &Open) -> Result<Sent
       uri = uri.now;
       text = chars (string_bytes document.now.text);
       opening = document.now.opening;
-      version = document.now.version;
+      version = pos document.now.version;
     }) }
 {
     let uri = String::from_str(alloc, uri)?;

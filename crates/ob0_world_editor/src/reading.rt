@@ -132,7 +132,7 @@ fn read_answer(
     let Some(requested) = numbered_ask(requested, number) else {
         return Ok(None);
     };
-    let edits = read_edits(alloc, &requested.ask, answer)?;
+    let edits = read_edits(alloc, requested.uri.as_str(), &requested.ask, answer)?;
     Ok(Some(Message::Answered { number, edits }))
 }
 
@@ -158,12 +158,14 @@ pub fn numbered_ask(requested: &[SentAsk], number: u64) -> Option<&SentAsk>
     }
 }
 
-/// Returns the edits in the answer to an ask. The list is empty if the answer has no edits that can be read.
-fn read_edits(alloc: Global, ask: &Ask, answer: &Value) -> Result<Vec<Edit>, AllocError>
+/// Returns the edits in the answer to an ask about this document. The list is empty if the answer has no edits that can
+/// be read.
+fn read_edits(alloc: Global, uri: &str, ask: &Ask, answer: &Value) -> Result<Vec<Edit>, AllocError>
     ensures { IfOk result
-        (λ edits. replacements edits.items ≡ edits_for (ask_of ask.now) (view answer.now)) }
+        (λ edits. replacements edits.items
+        ≡ edits_for uri.now (ask_of ask.now) (view answer.now)) }
 {
-    let Some(values) = answered_values(ask, answer) else {
+    let Some(values) = answered_values(uri, ask, answer) else {
         return Ok(Vec::new(alloc));
     };
     match edits_of(alloc, values)? {
@@ -172,9 +174,9 @@ fn read_edits(alloc: Global, ask: &Ask, answer: &Value) -> Result<Vec<Edit>, All
     }
 }
 
-fn answered_values<'v>(ask: &Ask, answer: &'v Value) -> Option<&'v Vec<Value>>
+fn answered_values<'v>(uri: &str, ask: &Ask, answer: &'v Value) -> Option<&'v Vec<Value>>
     ensures { option_map (λ v. items_view v.now.items) result
-        ≡ option_and_then (items_of_answer (ask_of ask.now))
+        ≡ option_and_then (items_of_answer uri.now (ask_of ask.now))
         (get (codes "result") (view answer.now)) }
 {
     let result = answer.get("result")?;
@@ -182,32 +184,36 @@ fn answered_values<'v>(ask: &Ask, answer: &'v Value) -> Option<&'v Vec<Value>>
         Ask::Rename {
             position: _position,
             name: _name,
-        } => workspace_values(result),
+        } => workspace_values(result, uri),
         Ask::InlineHere {
             position: _position,
-        } => action_values(result, "Inline here"),
+        } => action_values(result, "Inline here", uri),
         Ask::InlineAll {
             position: _position,
-        } => action_values(result, "Inline everywhere"),
+        } => action_values(result, "Inline everywhere", uri),
         Ask::Format { indent: _indent } => result.as_array(),
     }
 }
 
-/// Returns the list of edits of the first document in a WorkspaceEdit. None if there is none.
-fn workspace_values(edit: &Value) -> Option<&Vec<Value>>
-    ensures { option_map (λ v. items_view v.now.items) result ≡ workspace_items (view edit.now) }
+/// Returns the list of edits of this document in a WorkspaceEdit. If there are `documentChanges`, it has the edits of
+/// the first. Otherwise `changes` has the edits of each uri. None if there is none.
+fn workspace_values<'v>(edit: &'v Value, uri: &str) -> Option<&'v Vec<Value>>
+    ensures { option_map (λ v. items_view v.now.items) result
+        ≡ workspace_items uri.now (view edit.now) }
 {
-    let first = edit.get("documentChanges")?.get(0)?;
-    first.get("edits")?.as_array()
+    match edit.get("documentChanges") {
+        Some(documents) => documents.get(0)?.get("edits")?.as_array(),
+        None => edit.get("changes")?.get(uri)?.as_array(),
+    }
 }
 
-/// Returns the list of edits of the first action with this title. None if there is none.
-fn action_values<'v>(actions: &'v Value, title: &str) -> Option<&'v Vec<Value>>
+/// Returns the list of edits of this document in the first action with this title. None if there is none.
+fn action_values<'v>(actions: &'v Value, title: &str, uri: &str) -> Option<&'v Vec<Value>>
     ensures { option_map (λ v. items_view v.now.items) result
-        ≡ action_items title.now (view actions.now) }
+        ≡ action_items title.now uri.now (view actions.now) }
 {
     let action = action_with_title(actions.as_array()?, title)?;
-    workspace_values(action.get("edit")?)
+    workspace_values(action.get("edit")?, uri)
 }
 
 fn action_with_title<'v>(actions: &'v [Value], title: &str) -> Option<&'v Value>

@@ -1,7 +1,7 @@
 -- Proves the guarantees for every editor that keeps ob0's rules. Apart from other messages, its moves keep the
 -- invariant of the model's acts.
 use Rattle.std.proofs.Common.{◌≡◌, ◌∙◌, ℕ, suc, ◌+◌, cond, List, [], ◌∷◌, ◌++◌, map, length, append-nil, append_assoc, refl, sym, ap, subst}
-use Rattle.std.specs.Prelude.{pos, All, Option, Some, None, option_map}
+use Rattle.std.specs.Prelude.{ℤ, All, Option, Some, None, option_map}
 use Rattle.std.specs.FinMap as map_of
 use Rattle.std.proofs.lemmas.Option.{same_Some}
 use Rattle.std.proofs.lemmas.List.Elements.{All-nil, All-push}
@@ -103,11 +103,11 @@ module _ (unit : Unit) where
   put_there : (held : OpenDocuments) (e : Editor) (uri : List ℕ) (d : Open) (m : ToServer) → ((q : List ℕ) → document_at (after_message held m) q ≡ option_map as_open (open_at (with_document e uri d) q)) → document_at (after_message held m) uri ≡ Some (as_open d)
   put_there held e uri d m mirror = mirror uri ∙ ap (option_map as_open) (get_put e.documents uri d uri ∙ ap (λ b. cond b (Some d) (map_of.get e.documents uri)) (uri_itself uri))
 
-  open_good : (w : EditorAndServer) (uri text : List ℕ) (version : ℕ) → Good w
+  open_good : (w : EditorAndServer) (uri text : List ℕ) (version : ℤ) → Good w
       → Good (after_move w (opened_as (record { version = version; text = text; opening = w.editor.openings + 1 }) w.editor uri) (record { uri = uri; document = record { version = version; text = text; opening = w.editor.openings + 1 } } ∷ []))
   open_good w uri text version good =
       let d : Open = record { version = version; text = text; opening = w.editor.openings + 1 } in
-      let m : ToServer = notifies (Opened uri (pos version) text) in
+      let m : ToServer = notifies (Opened uri version text) in
       one_sent w (record (with_document w.editor uri d) { openings = d.opening }) m (record { uri = uri; document = d } ∷ []) [] good
       (opened_kept unit (as_model w) uri text version good.kept)
       (λ held mirror. (Some d, put_there held w.editor uri d m mirror, refl))
@@ -121,7 +121,7 @@ module _ (unit : Unit) where
       (subst (λ e. Kept unit (after_act (as_model w) (record { editor = e; sent = []; applied = applied }))) (sym is)
       (acts_kept unit (as_model w) (record { editor = w.editor; sent = []; applied = applied }) good.kept (λ k a same. same) refl refl good.kept.mirror tt keeps)))
   revisions_good (r ∷ more) w uri new announced applied good (d, later, at, makes, rest, is) keeps =
-      let m : ToServer = notifies (Changed uri (pos r.version) r.how) in
+      let m : ToServer = notifies (Changed uri r.version r.how) in
       let first : Done = record { editor = with_document w.editor uri (revised d r); sent = m ∷ []; applied = [] } in
       let one : List Announced = record { uri = uri; document = revised d r } ∷ [] in
       let between : EditorAndServer = after_move w first one in

@@ -1,6 +1,6 @@
 -- Proves that each move of an editor and each turn of the server keeps the invariant (`Kept`).
 use Rattle.std.proofs.Common.{◌≡◌, ◌∙◌, ℕ, suc, ◌+◌, Bool, true, false, cond, List, [], ◌∷◌, ◌++◌, length, refl, sym, ap, subst, inl, inr}
-use Rattle.std.specs.Prelude.{ℤ, pos, fold, All, Option, Some, None, is_some, option_map, ◌==◌}
+use Rattle.std.specs.Prelude.{ℤ, fold, All, Option, Some, None, is_some, option_map, ◌==◌}
 use Rattle.std.specs.Str.{bytes_eq}
 use Rattle.std.specs.Ordering.{nat_cmp}
 use Rattle.std.specs.Cmp.Lexicographic.{slice_cmp}
@@ -38,7 +38,7 @@ quiet_stays held (requests k uri ask ∷ q) quiet = quiet_stays held q quiet
 -- ---- the editor's events
 
 module _ (unit : Unit) where
-  pub opened_kept : (w : ClientAndServer) (uri text : List ℕ) (version : ℕ) → Kept unit w → Kept unit (after_act w (opened_as (record { version = version; text = text; opening = w.editor.openings + 1 }) w.editor uri))
+  pub opened_kept : (w : ClientAndServer) (uri text : List ℕ) (version : ℤ) → Kept unit w → Kept unit (after_act w (opened_as (record { version = version; text = text; opening = w.editor.openings + 1 }) w.editor uri))
   opened_kept w uri text version kept =
       let d : Open = record { version = version; text = text; opening = w.editor.openings + 1 } in
       acts_kept unit w (opened_as d w.editor uri) kept (λ k a is. is) refl refl (put_mirrors w uri d kept.mirror) tt (All-nil KeepsTheRun)
@@ -54,7 +54,7 @@ module _ (unit : Unit) where
       record {
         requested = a;
         is = slice_get_last w.editor.requested a;
-        holds = (pos d.version, kept.mirror uri ∙ ap (option_map as_open) is);
+        holds = (d.version, kept.mirror uri ∙ ap (option_map as_open) is);
       } in
       acts_kept unit w (asks w.editor uri ask d) kept (numbered_push w.editor.requested (a ∷ [])) refl refl kept.mirror (known, tt) (All-nil KeepsTheRun)
 
@@ -302,4 +302,4 @@ module _ (unit : Unit) where
   pub up_to_date : (w : ClientAndServer) → Both w → notes_among w.to_server ≡ [] → AreUpToDate w.editor w.made
   up_to_date w (kept, now) quiet uri d at =
       let held : document_at w.held uri ≡ Some (as_open d) = subst (λ held. document_at held uri ≡ Some (as_open d)) (quiet_stays w.held w.to_server quiet) (kept.mirror uri ∙ ap (option_map as_open) at) in
-      now uri (pos d.version) d.text held
+      now uri d.version d.text held

@@ -1,6 +1,6 @@
 -- Defines the invariant of client and server (`Kept`), and proves that it is kept when the editor acts.
 use Rattle.std.proofs.Common.{◌≡◌, ◌∙◌, ℕ, Bool, true, false, cond, List, [], ◌∷◌, ◌++◌, refl, sym, ap, subst}
-use Rattle.std.specs.Prelude.{◌⊎◌, ⊤, ℤ, pos, fold, All, Some, None, option_map, ◌==◌}
+use Rattle.std.specs.Prelude.{◌⊎◌, ⊤, ℤ, fold, All, Some, None, option_map, ◌==◌}
 use Rattle.std.specs.Str.{bytes_eq}
 use Rattle.std.specs.FinMap as map_of
 use Rattle.std.proofs.lemmas.Bool.{eqb-true}
@@ -133,19 +133,19 @@ remove_mirrors w uri mirror q =
 -- Changing a document's text at client and server keeps the mirror.
 change_mirrors : (w : ClientAndServer) (uri : List ℕ) (d new : Open) (how : List TextChange) → Mirrors w → (will_have w).unit ≡ w.editor.unit → open_at w.editor uri ≡ Some d
     → after_changes w.editor.unit (Some d.text) how ≡ Some new.text → (q : List ℕ)
-    → document_at (after_event (will_have w) (Changed uri (pos new.version) how)) q ≡ option_map as_open (map_of.get (map_of.insert w.editor.documents uri new) q)
+    → document_at (after_event (will_have w) (Changed uri new.version how)) q ≡ option_map as_open (map_of.get (map_of.insert w.editor.documents uri new) q)
 change_mirrors w uri d new how mirror same_unit was_open is q =
     let held : document_at (will_have w) uri ≡ Some (as_open d) = mirror uri ∙ ap (option_map as_open) was_open in
-    ap (λ m. map_of.get m q) (updated-some (will_have w).by_uri uri (changed_document (will_have w).unit (pos new.version) how) (as_open d) held)
-    ∙ ap (λ text. map_of.get (map_of.insert (will_have w).by_uri uri (document (pos new.version) text)) q) (ap (λ u. after_changes u (Some d.text) how) same_unit ∙ is)
+    ap (λ m. map_of.get m q) (updated-some (will_have w).by_uri uri (changed_document (will_have w).unit new.version how) (as_open d) held)
+    ∙ ap (λ text. map_of.get (map_of.insert (will_have w).by_uri uri (document new.version text)) q) (ap (λ u. after_changes u (Some d.text) how) same_unit ∙ is)
     ∙ put_mirror w uri new mirror q
 
 -- Giving an open document another version and text keeps the invariant if the server is sent the changes.
 pub revise_kept : (unit : Unit) (w : ClientAndServer) (uri : List ℕ) (d new : Open) (how : List TextChange) (applied : List Applied) → Kept unit w → open_at w.editor uri ≡ Some d
     → after_changes w.editor.unit (Some d.text) how ≡ Some new.text → All KeepsTheRun applied
-    → Kept unit (after_act w (record { editor = record w.editor { documents = map_of.insert w.editor.documents uri new }; sent = notifies (Changed uri (pos new.version) how) ∷ []; applied = applied }))
+    → Kept unit (after_act w (record { editor = record w.editor { documents = map_of.insert w.editor.documents uri new }; sent = notifies (Changed uri new.version how) ∷ []; applied = applied }))
 revise_kept unit w uri d new how applied kept was_open is keeps =
-    acts_kept unit w (record { editor = record w.editor { documents = map_of.insert w.editor.documents uri new }; sent = notifies (Changed uri (pos new.version) how) ∷ []; applied = applied }) kept (λ k a is. is)
+    acts_kept unit w (record { editor = record w.editor { documents = map_of.insert w.editor.documents uri new }; sent = notifies (Changed uri new.version how) ∷ []; applied = applied }) kept (λ k a is. is)
     refl refl (change_mirrors w uri d new how kept.mirror (will_unit w.held w.to_server ∙ kept.holds ∙ sym kept.counts) was_open is) tt keeps
 
 -- ---- answers in the editor

@@ -12,7 +12,6 @@ pub mod OneCourse
 mod CourseFits
 mod Keeping
 pub mod Interleavings
-pub mod MadeFor
 pub mod UriLaws
 pub mod Asked
 pub mod SameDocument

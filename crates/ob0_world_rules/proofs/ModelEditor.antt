@@ -1,12 +1,12 @@
 -- Proves that the model's editor keeps ob0's rules: each of its acts is a move that it may make, or changes nothing.
 use Rattle.std.proofs.Common.{◌≡◌, ◌∙◌, ℕ, ◌+◌, cond, inl, inr, List, [], ◌∷◌, ◌++◌, map, append-nil, append_assoc, refl, sym, ap, subst}
-use Rattle.std.specs.Prelude.{◌⊎◌, Some}
+use Rattle.std.specs.Prelude.{◌⊎◌, ℤ, pos, Some}
 use Rattle.std.proofs.lemmas.List.{map-append}
 use Rattle.ob0_text.specs.declared.position_types.Unit.{Unit}
 use Rattle.ob0_text.specs.OpenDocuments.{TextChange, changed_text}
 use Rattle.ob0_world_rules.specs.Edited.{Replacement, edited, whole_text, after_changes}
 use Rattle.ob0_world_rules.specs.ClientAndServer.{Open, EditorDocuments, SentAsk, Editor, request_numbered, open_at, ToServer, ToEditor, publishes, answers, ClientAndServer, start, after_message}
-use Rattle.ob0_world_rules.specs.Editing.{Act, Done, stays, opens, rewrites, kept_answer, without_answer, done_by, reads}
+use Rattle.ob0_world_rules.specs.Editing.{Act, Done, next_version, stays, opens, rewrites, kept_answer, without_answer, done_by, reads}
 use Rattle.ob0_world_rules.specs.Happens.{Event, does, serve, take_message, after_act, after_taking, ServerTakes, Happens, Course}
 use Rattle.ob0_world_rules.specs.Headline.{Holds}
 use Rattle.ob0_world_rules.specs.Mirror.{Mirrors}
@@ -61,8 +61,8 @@ put_announced : (docs : EditorDocuments) (uri : List ℕ) (d : Open) → announc
 put_announced docs uri d = ap (λ o. announced_at uri o ++ []) (get_put docs uri d uri ∙ ap (λ b. cond b (Some d) (map_of.get docs uri)) (uri_itself uri))
 
 -- returns the revision with the next version and this text, by one notification
-abbrev rewrite_of : ℕ → List ℕ → List TextChange → Revision
-rewrite_of version text how = record { version = version + 1; text = text; how = how }
+abbrev rewrite_of : ℤ → List ℕ → List TextChange → Revision
+rewrite_of version text how = record { version = next_version version; text = text; how = how }
 
 rewritten_revises : (e : Editor) (uri : List ℕ) (d : Open) (how : List TextChange) (text : List ℕ) → open_at e uri ≡ Some d → after_changes e.unit (Some d.text) how ≡ Some text
     → Revises e uri (rewrite_of d.version text how ∷ []) (with_document e uri (revised d (rewrite_of d.version text how))) (record { uri = uri; document = revised d (rewrite_of d.version text how) } ∷ [])
@@ -149,8 +149,8 @@ act_may e act knows =
     (record {
       still = inl refl;
       opened = λ uri text none.
-          let d : Open = record { version = 1; text = text; opening = e.openings + 1 } in
-          moves e (opens e uri text) (to_open uri 1 text) (record { uri = uri; document = d } ∷ []) (put_announced e.documents uri d) (refl, refl);
+          let d : Open = record { version = pos 1; text = text; opening = e.openings + 1 } in
+          moves e (opens e uri text) (to_open uri (pos 1) text) (record { uri = uri; document = d } ∷ []) (put_announced e.documents uri d) (refl, refl);
       changed = λ uri d how text at makes.
           let r : Revision = rewrite_of d.version text how in
           moves e (rewrites e uri d text how []) (to_revise uri (r ∷ [])) (record { uri = uri; document = revised d r } ∷ []) (put_announced e.documents uri (revised d r))

@@ -62,3 +62,8 @@ one_course w [] end other h k = h ∙ sym k
 one_course w (event ∷ events) end other (between, happens, course) (middle, happens_too, course_too) =
     let same : between ≡ middle = one_step w event between middle happens happens_too in
     one_course middle events end other (subst (λ x. Course x events end) same course) course_too
+
+-- A course with one more event at its end is a course.
+pub course_push : (w : ClientAndServer) (events : List Event) (between : ClientAndServer) (e : Event) (new : ClientAndServer) → Course w events between → Happens between e new → Course w (events ++ e ∷ []) new
+course_push w [] between e new run happens = (new, subst (λ x. Happens x e new) run happens, refl)
+course_push w (x ∷ events) between e new (mid, first, rest) happens = (mid, first, course_push mid events between e new rest happens)

@@ -1,7 +1,7 @@
 -- Proves that a document with the same opening and version as at a request has the text that it had then. No act makes
 -- such a document of another one, since opening numbers are fresh and versions only rise.
 use Rattle.std.proofs.Common.{◌≡◌, ◌∙◌, ℕ, zero, suc, ◌+◌, ◌≤◌, ◌<◌, Bool, true, false, cond, List, [], ◌∷◌, ◌++◌, refl, sym, ap, subst, arith, ◌&&◌}
-use Rattle.std.specs.Prelude.{Option, Some, None, All, option_and_then, slice_get, ◌==◌}
+use Rattle.std.specs.Prelude.{ℤ, pos, negsuc, Option, Some, None, All, option_and_then, slice_get, ◌==◌}
 use Rattle.std.specs.Str.{bytes_eq}
 use Rattle.std.specs.Ordering.{nat_cmp}
 use Rattle.std.specs.Cmp.Lexicographic.{slice_cmp}
@@ -13,14 +13,14 @@ use Rattle.ob0_text.specs.declared.position_types.Unit.{Unit}
 use Rattle.ob0_text.specs.OpenDocuments.{TextChange}
 use Rattle.ob0_world_rules.specs.ClientAndServer.{Open, EditorDocuments, SentAsk, Answer, Editor, new_editor, request_numbered, open_at, Applied}
 use Rattle.ob0_world_rules.specs.Asks.{Ask}
-use Rattle.ob0_world_rules.specs.Editing.{opens, rewrites, closes, asks, if_same}
+use Rattle.ob0_world_rules.specs.Editing.{counted, next_version, same_version, opens, rewrites, closes, asks, if_same}
 use Rattle.ob0_world_rules.proofs.UriLaws.{get_put, get_removed, same_uri}
 
 -- states that a request was made earlier: its opening's number isn't fresh, and in that opening versions have only
 -- risen
 record Past (e : Editor) (a : SentAsk) : Type 0 where
   known : a.opening ≤ e.openings
-  risen : (d : Open) → open_at e a.uri ≡ Some d → d.opening ≡ a.opening → a.version ≤ d.version
+  risen : (d : Open) → open_at e a.uri ≡ Some d → d.opening ≡ a.opening → counted a.version ≤ counted d.version
 
 -- states that the document of the request is d, with the same opening and the same version
 pub record Same (e : Editor) (a : SentAsk) (d : Open) : Type 0 where
@@ -28,18 +28,25 @@ pub record Same (e : Editor) (a : SentAsk) (d : Open) : Type 0 where
   pub opening : d.opening ≡ a.opening
   pub version : d.version ≡ a.version
 
+-- Versions that are found equal are equal.
+same_versions : (v w : ℤ) → same_version v w ≡ true → v ≡ w
+same_versions (pos n) (pos m) is = ap pos (eqb-true n m is)
+same_versions (pos n) (negsuc m) is = absurd (cc)
+same_versions (negsuc n) (pos m) is = absurd (cc)
+same_versions (negsuc n) (negsuc m) is = ap negsuc (eqb-true n m is)
+
 pub same_from : (e : Editor) (a : SentAsk) (d : Open) → option_and_then (if_same a) (open_at e a.uri) ≡ Some d → Same e a d
 same_from e a d h = go (open_at e a.uri) refl h
   where
     go : (o : Option Open) → open_at e a.uri ≡ o → option_and_then (if_same a) o ≡ Some d → Same e a d
     go None is h = absurd (none-some d h)
     go (Some x) is h =
-        let both : (x.opening == a.opening && x.version == a.version ≡ true) × (x ≡ d) = cond_some _ x d h in
-        let tests : (x.opening == a.opening ≡ true) × (x.version == a.version ≡ true) = and_parts _ _ both.0 in
+        let both : (x.opening == a.opening && same_version x.version a.version ≡ true) × (x ≡ d) = cond_some _ x d h in
+        let tests : (x.opening == a.opening ≡ true) × (same_version x.version a.version ≡ true) = and_parts _ _ both.0 in
         record {
           at = is ∙ ap Some both.1;
           opening = ap (λ y. y.opening) (sym both.1) ∙ eqb-true _ _ tests.0;
-          version = ap (λ y. y.version) (sym both.1) ∙ eqb-true _ _ tests.1;
+          version = ap (λ y. y.version) (sym both.1) ∙ same_versions x.version a.version tests.1;
         }
 
 -- states that in the later editor an earlier request has the same document only if it had it before
@@ -80,7 +87,7 @@ later_open e uri new fresh =
     record {
       past = λ a past. record {
         known = let known : a.opening ≤ e.openings = past.known in omega arith;
-        risen = λ d at opening. found e.documents uri a.uri new d (a.version ≤ d.version) at (λ same is. absurd (not_fresh a past d is opening)) (λ was. past.risen d was opening);
+        risen = λ d at opening. found e.documents uri a.uri new d (counted a.version ≤ counted d.version) at (λ same is. absurd (not_fresh a past d is opening)) (λ was. past.risen d was opening);
       };
       same = λ a d past same. found e.documents uri a.uri new d (Same e a d) same.at (λ at is. absurd (not_fresh a past d is same.opening)) (λ was. record { at = was; opening = same.opening; version = same.version });
     }
@@ -92,24 +99,24 @@ later_open e uri new fresh =
         omega arith
 
 -- Revising a document doesn't give an earlier request its document back, since the version rises.
-later_revise : (e : Editor) (uri : List ℕ) (d new : Open) → new.opening ≡ d.opening → d.version < new.version → open_at e uri ≡ Some d → Later e (record e { documents = map_of.insert e.documents uri new })
+later_revise : (e : Editor) (uri : List ℕ) (d new : Open) → new.opening ≡ d.opening → counted d.version < counted new.version → open_at e uri ≡ Some d → Later e (record e { documents = map_of.insert e.documents uri new })
 later_revise e uri d new same_opening rises was_open =
     record {
       past = λ a past. record {
         known = past.known;
-        risen = λ x at opening. found e.documents uri a.uri new x (a.version ≤ x.version) at
-            (λ same is. let old : a.version ≤ d.version = risen_before a past x same is opening in
-            let version : new.version ≡ x.version = ap (λ y. y.version) is in omega arith)
+        risen = λ x at opening. found e.documents uri a.uri new x (counted a.version ≤ counted x.version) at
+            (λ same is. let old : counted a.version ≤ counted d.version = risen_before a past x same is opening in
+            let version : counted new.version ≡ counted x.version = ap (λ y. counted y.version) is in omega arith)
             (λ was. past.risen x was opening);
       };
       same = λ a x past same. found e.documents uri a.uri new x (Same e a x) same.at
-          (λ at is. let old : a.version ≤ d.version = risen_before a past x at is same.opening in
-          let version : new.version ≡ x.version = ap (λ y. y.version) is in
-          let equal : x.version ≡ a.version = same.version in absurd (omega arith))
+          (λ at is. let old : counted a.version ≤ counted d.version = risen_before a past x at is same.opening in
+          let version : counted new.version ≡ counted x.version = ap (λ y. counted y.version) is in
+          let equal : counted x.version ≡ counted a.version = ap counted same.version in absurd (omega arith))
           (λ was. record { at = was; opening = same.opening; version = same.version });
     }
   where
-    risen_before : (a : SentAsk) → Past e a → (x : Open) → a.uri ≡ uri → new ≡ x → x.opening ≡ a.opening → a.version ≤ d.version
+    risen_before : (a : SentAsk) → Past e a → (x : Open) → a.uri ≡ uri → new ≡ x → x.opening ≡ a.opening → counted a.version ≤ counted d.version
     risen_before a past x same is opening = past.risen d (ap (open_at e) same ∙ was_open) (sym same_opening ∙ ap (λ y. y.opening) is ∙ opening)
 
 later_close : (e : Editor) (uri : List ℕ) → Later e (record e { documents = map_of.remove e.documents uri })
@@ -152,7 +159,7 @@ knows_other e list knows = record { openings = knows.openings; asks = later_asks
 
 pub knows_open : (e : Editor) (uri text : List ℕ) → Knows e → Knows (opens e uri text).editor
 knows_open e uri text knows =
-    let d : Open = record { version = 1; text = text; opening = e.openings + 1 } in
+    let d : Open = record { version = pos 1; text = text; opening = e.openings + 1 } in
     record {
       openings = λ q x at. found e.documents uri q d x (x.opening ≤ e.openings + 1) at
           (λ same is. subst (λ y. y.opening ≤ e.openings + 1) is (omega arith))
@@ -162,7 +169,7 @@ knows_open e uri text knows =
 
 pub knows_rewrite : (e : Editor) (uri : List ℕ) (d : Open) (text : List ℕ) (how : List TextChange) (applied : List Applied) → open_at e uri ≡ Some d → Knows e → Knows (rewrites e uri d text how applied).editor
 knows_rewrite e uri d text how applied was_open knows =
-    let new : Open = record d { version = d.version + 1; text = text } in
+    let new : Open = record d { version = next_version d.version; text = text } in
     record {
       openings = λ q x at. found e.documents uri q new x (x.opening ≤ e.openings) at
           (λ same is. subst (λ y. y.opening ≤ e.openings) is (knows.openings uri d was_open))
@@ -187,7 +194,7 @@ knows_ask e uri ask d was_open knows =
           (record {
             past = record {
               known = knows.openings uri d was_open;
-              risen = λ x at opening. subst (λ y. d.version ≤ y.version) (same_Some d x (sym was_open ∙ at)) (omega arith);
+              risen = λ x at opening. subst (λ y. counted d.version ≤ counted y.version) (same_Some d x (sym was_open ∙ at)) (omega arith);
             };
             same_text = λ x same. ap (λ y. y.text) (same_Some x d (sym same.at ∙ was_open));
           });

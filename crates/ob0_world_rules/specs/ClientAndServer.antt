@@ -13,7 +13,7 @@ use Rattle.ob0_world_rules.specs.Asks.{Ask}
 
 -- a document that is open in the editor; each opening has its own number
 pub record Open : Type 0 where
-  pub version : ℕ
+  pub version : ℤ
   pub text : List ℕ
   pub opening : ℕ
 
@@ -28,7 +28,7 @@ pub record SentAsk : Type 0 where
   pub uri : List ℕ
   pub text : List ℕ
   pub opening : ℕ
-  pub version : ℕ
+  pub version : ℤ
 
 -- an answer that the editor has received and not yet used, with the number of its request
 pub record Answer : Type 0 where

@@ -1,6 +1,6 @@
 -- Defines the acts of the model's editor, and the messages that it sends.
 -- Rule: LSP 3.17, versioned documents: a model of a client.
-use Rattle.std.specs.Prelude.{ℕ, suc, ◌+◌, pos, List, [], ◌∷◌, ◌++◌, ◌&&◌, ◌==◌, length, Option, Some, None, is_some, unwrap_or, if◌then◌else◌}
+use Rattle.std.specs.Prelude.{ℕ, suc, ◌+◌, ℤ, pos, negsuc, Bool, false, List, [], ◌∷◌, ◌++◌, ◌&&◌, ◌==◌, length, Option, Some, None, is_some, unwrap_or, if◌then◌else◌}
 use Rattle.std.specs.FinMap as map_of
 use Rattle.ob0_text.specs.OpenDocuments.{TextChange, Opened, Changed, Closed}
 use Rattle.ob0_language_types.specs.Typing.{◌>>=◌}
@@ -33,10 +33,26 @@ stays e = record { editor = e; sent = []; applied = [] }
 abbrev pub sends : Editor → ToServer → List Applied → Done
 sends e message applied = record { editor = e; sent = message ∷ []; applied = applied }
 
+-- returns the number that a version is. 0 if it is negative.
+abbrev pub counted : ℤ → ℕ
+counted (pos n) = n
+counted (negsuc n) = 0
+
+-- returns the version that this editor gives a document after one with this version
+abbrev pub next_version : ℤ → ℤ
+next_version version = pos (counted version + 1)
+
+-- returns whether two versions are equal
+abbrev pub same_version : ℤ → ℤ → Bool
+same_version (pos n) (pos m) = n == m
+same_version (pos n) (negsuc m) = false
+same_version (negsuc n) (pos m) = false
+same_version (negsuc n) (negsuc m) = n == m
+
 -- returns the result of opening a document, with version 1 and a new opening number
 abbrev pub opens : Editor → List ℕ → List ℕ → Done
 opens e uri text =
-    let d : Open = record { version = 1; text = text; opening = e.openings + 1 } in
+    let d : Open = record { version = pos 1; text = text; opening = e.openings + 1 } in
     sends (record e { documents = map_of.insert e.documents uri d; openings = e.openings + 1 })
     (notifies (Opened uri (pos 1) text)) []
 
@@ -44,9 +60,9 @@ opens e uri text =
 -- sent
 abbrev pub rewrites : Editor → List ℕ → Open → List ℕ → List TextChange → List Applied → Done
 rewrites e uri d text how applied =
-    let new : Open = record d { version = d.version + 1; text = text } in
+    let new : Open = record d { version = next_version d.version; text = text } in
     sends (record e { documents = map_of.insert e.documents uri new })
-    (notifies (Changed uri (pos new.version) how)) applied
+    (notifies (Changed uri new.version how)) applied
 
 -- returns the result of closing an open document
 abbrev pub closes : Editor → List ℕ → Done
@@ -82,7 +98,7 @@ without_answer e k = record e { answers = all_but k e.answers }
 
 -- returns the document if its opening and version are those at the time of the request
 abbrev pub if_same : SentAsk → Open → Option Open
-if_same a d = if d.opening == a.opening && d.version == a.version then Some d else None
+if_same a d = if d.opening == a.opening && same_version d.version a.version then Some d else None
 
 -- Returns the result of making the edits that answer request k in the document of that request.
 -- None if there is no such document, if its opening or version has changed, or if two edits share a

@@ -1,7 +1,7 @@
 -- Defines the rules for an editor: which moves it may make, and what it sends.
 -- The model's editor (`done_by`) keeps these rules and makes each move in one way.
 -- Rule: LSP 3.17, Text Document Synchronization, versioned documents.
-use Rattle.std.specs.Prelude.{◌≡◌, ◌+◌, ℕ, pos, List, [], ◌∷◌, ◌++◌, map, Some}
+use Rattle.std.specs.Prelude.{◌≡◌, ◌+◌, ℕ, ℤ, List, [], ◌∷◌, ◌++◌, map, Some}
 use Rattle.std.specs.FinMap as map_of
 use Rattle.ob0_text.specs.OpenDocuments.{TextChange, Opened, Changed}
 use Rattle.ob0_world_rules.specs.Edited.{Replacement, edited, after_changes}
@@ -12,14 +12,14 @@ use Rattle.ob0_world_rules.specs.MadeInOrder.{Announced}
 
 -- a document's next version and text, and the changes sent to the server for it
 pub record Revision : Type 0 where
-  pub version : ℕ
+  pub version : ℤ
   pub text : List ℕ
   pub how : List TextChange
 
 -- a move of the editor
 pub data Move : Type 0 where
   -- the uri, the version and the text
-  to_open : List ℕ → ℕ → List ℕ → Move
+  to_open : List ℕ → ℤ → List ℕ → Move
   -- the user's changes of an open document, each with a notification
   to_revise : List ℕ → List Revision → Move
   to_close : List ℕ → Move
@@ -54,7 +54,7 @@ Revises e uri (r ∷ more) new announced =
 
 -- returns the notifications that send these revisions to the server
 abbrev pub told : List ℕ → List Revision → List ToServer
-told uri revisions = map (λ r. notifies (Changed uri (pos r.version) r.how)) revisions
+told uri revisions = map (λ r. notifies (Changed uri r.version r.how)) revisions
 
 -- returns the changes of all revisions, in order
 abbrev pub changes_of : List Revision → List TextChange
@@ -97,7 +97,7 @@ pub record AppliesAnswer (e : Editor) (k : ℕ) (revisions : List Revision) (don
 abbrev pub opened_as : Open → Editor → List ℕ → Done
 opened_as d e uri =
     sends (record (with_document e uri d) { openings = d.opening })
-    (notifies (Opened uri (pos d.version) d.text)) []
+    (notifies (Opened uri d.version d.text)) []
 
 -- Holds if a move may have this result and announce these documents to the server. Only an open
 -- document can be changed or asked about.

@@ -1,12 +1,13 @@
 -- States the guarantees of every list of events.
 -- Rule: docs/PROMISES.md, Client and server.
-use Rattle.std.specs.Prelude.{◌≡◌, ℕ, pos, List, [], ◌++◌, All, Option, Some, None, MatchOption, fold, if◌then◌else◌}
+use Rattle.std.specs.Prelude.{◌≡◌, ℕ, List, [], All, Option, Some, None, MatchOption, fold, if◌then◌else◌}
 use Rattle.std.specs.Str.{bytes_eq}
 use Rattle.ob0_text.specs.declared.position_types.Unit.{Unit}
 use Rattle.ob0_world_rules.specs.Language.{WellTypedText, SameRun}
 use Rattle.ob0_world_rules.specs.Answers.{IsEmptyIfCorrect}
 use Rattle.ob0_world_rules.specs.ClientAndServer.{Open, Editor, open_at, Applied, Made, ClientAndServer, start}
 use Rattle.ob0_world_rules.specs.Happens.{Event, Course}
+use Rattle.ob0_world_rules.specs.MadeInOrder.{AreMadeInOrder}
 
 -- ---- an applied edit
 
@@ -24,19 +25,6 @@ pub record KeepsTheRun (a : Applied) : Type 0 where
 abbrev pub IsRight : Made → Type 0
 IsRight m = IsEmptyIfCorrect m.text m.empty
 
--- States that after some of the first events the editor has the document open, with the
--- publication's version and with the text that it was made for.
-pub record WasMadeFor (unit : Unit) (events : List Event) (m : Made) : Type 0 where
-  pub before : List Event
-  pub following : List Event
-  pub parts : events ≡ before ++ following
-  pub moment : ClientAndServer
-  pub reached : Course (start unit) before moment
-  pub document : Open
-  pub is_open : open_at moment.editor m.uri ≡ Some document
-  pub version_is : pos document.version ≡ m.version
-  pub text_is : document.text ≡ m.text
-
 -- returns the last publication with a version for a uri
 abbrev pub last_publication : List ℕ → List Made → Option Made
 last_publication uri made =
@@ -49,7 +37,7 @@ AreUpToDate e made =
     (uri : List ℕ) (d : Open)
     → open_at e uri ≡ Some d
     → MatchOption (last_publication uri made) ⊥
-    (λ m. (m.version ≡ pos d.version) × (m.text ≡ d.text))
+    (λ m. (m.version ≡ d.version) × (m.text ≡ d.text))
 
 -- ---- the headline
 
@@ -74,5 +62,5 @@ pub record Headline (unit : Unit) (events : List Event) (applied : List Applied)
   pub applied_are : applied ≡ end.applied
   pub made_are : made ≡ end.made
   pub holds : Holds end
-  -- each publication was made for a text that the editor's document had at its version
-  pub made_for : All (WasMadeFor unit events) made
+  -- the n-th publication was made for the n-th document that the editor announced
+  pub made_for : AreMadeInOrder unit events made

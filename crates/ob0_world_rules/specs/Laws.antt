@@ -13,7 +13,7 @@ use Rattle.ob0_world_rules.specs.Answers.{GivesEdits, AnswersFor}
 use Rattle.ob0_world_rules.specs.ClientAndServer.{ClientAndServer, start}
 use Rattle.ob0_world_rules.specs.Editing.{open_document, change_document, close_document, ask_about, apply, discard}
 use Rattle.ob0_world_rules.specs.Happens.{Event, does, serve, take_message, Course, Happens}
-use Rattle.ob0_world_rules.specs.Headline.{Holds, WasMadeFor}
+use Rattle.ob0_world_rules.specs.Headline.{Holds}
 use Rattle.ob0_world_rules.specs.Mirror.{Mirrors}
 
 -- ---- texts
@@ -103,10 +103,3 @@ InEveryInterleaving =
 abbrev pub ServerMirrors : Type 0
 ServerMirrors =
     (u : Unit) (events : List Event) (w : ClientAndServer) → Course (start u) events w → Mirrors w
-
--- states that each publication was made for a text that the editor's document had at its version
-abbrev pub MadeForTheEditor : Type 0
-MadeForTheEditor =
-    (unit : Unit) (events : List Event) (end : ClientAndServer)
-    → Course (start unit) events end
-    → All (WasMadeFor unit events) end.made

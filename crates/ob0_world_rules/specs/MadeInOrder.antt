@@ -1,7 +1,7 @@
 -- Defines the order of publications: each is made for the next document that the editor announced
 -- to the server.
 -- Rule: docs/PROTOCOL.md, Publishing 1.
-use Rattle.std.specs.Prelude.{◌≡◌, ⊤, ℕ, ℤ, pos, List, [], ◌∷◌, ◌++◌, map, Option, Some, None}
+use Rattle.std.specs.Prelude.{◌≡◌, ⊤, ℕ, ℤ, List, [], ◌∷◌, ◌++◌, map, Option, Some, None}
 use Rattle.std.specs.List.{flat_map}
 use Rattle.ob0_text.specs.declared.position_types.Unit.{Unit}
 use Rattle.ob0_text.specs.OpenDocuments.{Opened, Changed, Lost, Closed}
@@ -55,7 +55,7 @@ AreAnnounced w (event ∷ events) announced =
 
 -- holds if the publication is made for this document: its uri, version and text
 abbrev pub IsMadeOf : Made → Announced → Type 0
-IsMadeOf m t = (m.uri ≡ t.uri) × (m.version ≡ pos t.document.version) × (m.text ≡ t.document.text)
+IsMadeOf m t = (m.uri ≡ t.uri) × (m.version ≡ t.document.version) × (m.text ≡ t.document.text)
 
 -- holds if there are as many publications as documents, and the n-th is made for the n-th document
 abbrev pub AreMadeOf : List Made → List Announced → Type 0
@@ -79,7 +79,7 @@ named_in (message ∷ queue) = versions_announced message ++ named_in queue
 
 -- returns a document's uri and version
 abbrev pub versioned_uri : Announced → List ℕ × ℤ
-versioned_uri t = (t.uri, pos t.document.version)
+versioned_uri t = (t.uri, t.document.version)
 
 -- States that the publications were made for the first documents that the editor announced, one for
 -- each, in order. The messages that still wait for the server announce the other documents.

@@ -1,7 +1,7 @@
 -- States that once the server has taken the messages that wait for it, it has the editor's
 -- documents.
 -- Rule: none; a law of the model of client and server.
-use Rattle.std.specs.Prelude.{◌≡◌, ℕ, pos, List, option_map, fold}
+use Rattle.std.specs.Prelude.{◌≡◌, ℕ, List, option_map, fold}
 use Rattle.ob0_text.specs.OpenDocuments.{OpenDocuments, Document, InStep, document_at}
 use Rattle.ob0_world_rules.specs.ClientAndServer.{Open, open_at, ClientAndServer, after_message}
 
@@ -11,7 +11,7 @@ will_have w = fold after_message w.held w.to_server
 
 -- returns an open document of the editor as the server has it: in step, with its version and text
 abbrev pub as_open : Open → Document
-as_open d = InStep (pos d.version) d.text
+as_open d = InStep d.version d.text
 
 -- Holds if the server has the editor's documents once it has taken the messages that wait for it.
 abbrev pub Mirrors : ClientAndServer → Type 0

@@ -1,5 +1,5 @@
 //! States the laws of the definitions that contracts cite.
-ghost use Rattle.ob0_world_rules.specs.Laws.{ACourseFits, AnswersAreOne, EditsKeepTheRun, InEveryInterleaving, MadeForTheEditor, OneCourse, OneReading, OneStep, ServerMirrors};
+ghost use Rattle.ob0_world_rules.specs.Laws.{ACourseFits, AnswersAreOne, EditsKeepTheRun, InEveryInterleaving, OneCourse, OneReading, OneStep, ServerMirrors};
 ghost use Rattle.ob0_world_rules.specs.MadeInOrder.{MadeInOrder};
 ghost use Rattle.ob0_world_rules.specs.EveryEditor.{TheModelIsOne, WithEveryEditor};
 
@@ -43,11 +43,6 @@ pub fn a_course_fits()
 /// Proves that the server will have the editor's documents once it has taken all messages that wait for it.
 pub fn server_mirrors()
     ensures { ServerMirrors }
-{}
-
-/// Proves that each publication with a version was made for a text that the editor's document had at that version.
-pub fn made_for_the_editor()
-    ensures { MadeForTheEditor }
 {}
 
 /// Proves that the n-th publication with a version was made for the n-th document that the editor announced to the

@@ -13,11 +13,10 @@ returns c unit begin now turns begins leads =
       holds = holds;
       written = λ short put result written served. c.a_conversation_is_served.ensures now.wire.taken (now.wire.got ++ now.wire.to_editor) now.wire.session short holds.conversation put result written served;
       written_first = λ short more put result written served. c.a_conversation_is_served_first.ensures now.wire.taken (now.wire.got ++ now.wire.to_editor) now.wire.session short holds.conversation more put result written served;
-      ended = λ id shutdown exit is_shutdown is_exit sent end talked short put result written served. (
-        holds.ends id shutdown exit is_shutdown is_exit sent end talked,
-        c.a_conversation_is_served.ensures (now.wire.taken ++ shutdown ∷ exit ∷ []) ((now.wire.got ++ now.wire.to_editor) ++ sent) end short
-            (conversation_then start now.wire.taken (now.wire.got ++ now.wire.to_editor) now.wire.session (shutdown ∷ exit ∷ []) sent end holds.conversation talked) put result written served,
-      );
+      ended = λ id shutdown exit is_shutdown is_exit sent end talked short more put result written served.
+          c.an_ended_conversation_is_served.ensures (now.wire.taken ++ shutdown ∷ exit ∷ []) ((now.wire.got ++ now.wire.to_editor) ++ sent) end 0 short
+          (conversation_then start now.wire.taken (now.wire.got ++ now.wire.to_editor) now.wire.session (shutdown ∷ exit ∷ []) sent end holds.conversation talked)
+          (holds.ends id shutdown exit is_shutdown is_exit sent end talked).ended more put result written served;
       in_part = λ taken put part are.
           part.frames
           ∙ ap (flat_map frame)
