@@ -158,7 +158,8 @@ class Terminal:
     """Neovim in a terminal of tmux, with a home of its own."""
 
     def __init__(self, room: str) -> None:
-        self.words = ["tmux", "-L", f"ob0-{os.getpid()}", "-f", "/dev/null"]
+        # (each has its own server: one that is told to end may still answer the next)
+        self.words = ["tmux", "-S", os.path.join(room, "tmux"), "-f", "/dev/null"]
         work, settings = os.path.join(room, "work"), os.path.join(room, "settings.vim")
         os.mkdir(work)
         shutil.copy(EXAMPLE, work)
