@@ -63,7 +63,7 @@ abbrev session₁ : ServerState
 session₁ = record { phase = session₀.phase; client = client_for Utf16; held = opened (none_open Utf16) uri (pos 0) worked_text }
 
 abbrev document₀ : Open
-document₀ = record { version = 0; text = worked_text; opening = 1 }
+document₀ = record { version = pos 0; text = worked_text; opening = 1 }
 
 abbrev editor₀ : Editor
 editor₀ = new_editor Utf16
@@ -72,7 +72,7 @@ abbrev editor₁ : Editor
 editor₁ = record (with_document (new_editor Utf16) uri document₀) { openings = 1 }
 
 abbrev the_ask : SentAsk
-the_ask = record { ask = inline_all (at 6 7); uri = uri; text = worked_text; opening = 1; version = 0 }
+the_ask = record { ask = inline_all (at 6 7); uri = uri; text = worked_text; opening = 1; version = pos 0 }
 
 abbrev editor₂ : Editor
 editor₂ = record editor₁ { requested = the_ask ∷ [] }
@@ -187,7 +187,7 @@ turn₂ = (x₂.wire, (session₀, [], (Some says_initialized, reads_so says_ini
 opened_note : note_of (codes "textDocument/didOpen") ((open_params uri 0 worked_text)) ≡ opens uri (pos 0) worked_text
 opened_note = ap (λ t. opens uri (pos 0) t) (chars_so worked_text refl)
 
-turn₃ : Exchanges x₂ (editor_does (to_open uri 0 worked_text)) x₃
+turn₃ : Exchanges x₂ (editor_does (to_open uri (pos 0) worked_text)) x₃
 turn₃ = (
   opened_as document₀ editor₀ uri,
   announced₀ ∷ [],
@@ -270,7 +270,7 @@ turn₇ = (
   content_of asks_actions ∷ [],
   (document₀, open_is, refl, refl),
   (number_id 2, refl, refl),
-  ((number (unsigned 2), asks_so, record { numbered = refl; is = record { sent = the_ask; is = refl; about = refl; asks_this = refl } }, (refl, refl)), tt),
+  ((number (unsigned 2), asks_so, record { numbered = refl; is = record { sent = the_ask; is = refl; about = refl; asks_this = refl } }, refl), tt),
   refl,
 )
 

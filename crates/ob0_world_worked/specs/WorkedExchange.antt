@@ -1,6 +1,6 @@
 -- States a worked exchange: an editor inlines a constant everywhere.
 -- Rule: LSP 3.17; a worked example.
-use Rattle.std.specs.Prelude.{◌≡◌, ℕ, List, [], ◌∷◌, ◌++◌, map, Some, codes}
+use Rattle.std.specs.Prelude.{◌≡◌, ℕ, pos, List, [], ◌∷◌, ◌++◌, map, Some, codes}
 use Rattle.serde_json.specs.Data.{Data, array, object, string, item, no_items, member, no_members}
 use Rattle.serde_json.specs.Written.{compact_text}
 use Rattle.ob0_text.specs.declared.position_types.Unit.TheVariants.{Utf16}
@@ -39,7 +39,7 @@ changes =
     ∷ []
 
 abbrev pub revision : Revision
-revision = record { version = 1; text = inlined_text; how = changes }
+revision = record { version = pos 1; text = inlined_text; how = changes }
 
 abbrev pub turns : List Turn
 turns =
@@ -47,7 +47,7 @@ turns =
     editor_says
     ∷ server_takes
     -- the document is opened at version 0
-    ∷ editor_does (to_open uri 0 worked_text)
+    ∷ editor_does (to_open uri (pos 0) worked_text)
     ∷ server_takes
     -- a hover
     ∷ editor_says
