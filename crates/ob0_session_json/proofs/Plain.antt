@@ -1,19 +1,23 @@
 -- Proves that publications, edits and actions are nested only a few levels deep.
-use Rattle.std.proofs.Common.{◌≡◌, ◌≤◌, ℕ, ℤ, List, [], ◌∷◌, Bool, true, false, Option, Some, None, map, arith, refl}
+use Rattle.std.proofs.Common.{◌≡◌, ◌≤◌, ℕ, ℤ, pos, negsuc, List, [], ◌∷◌, Bool, true, false, Option, Some, None, map, arith, refl}
 use Rattle.serde_json.specs.Data.{Data, array, depth, items_depth}
 use Rattle.serde_json.specs.View.{items_of}
 use Rattle.ob0_rpc.specs.Writing.{CanBeSent}
+use Rattle.ob0_rpc.specs.Shapes.{whole_number}
 use Rattle.ob0_text.specs.declared.edits.Edit.{Edit}
 use Rattle.ob0_rpc.specs.declared.clients.Client.{Client}
-use Rattle.ob0_rpc.proofs.Whole.{whole_is_flat}
 use Rattle.ob0_session_json.specs.Shapes.{Diagnostic, action_value, diagnostic_value, edit_value, edits_value, publication_params, workspace_edit}
+
+flat_whole : (z : ℤ) → depth (whole_number z) ≡ 0
+flat_whole (pos n) = refl
+flat_whole (negsuc n) = refl
 
 shallow_list : (ds : List Diagnostic) → items_depth (items_of (map diagnostic_value ds)) ≤ 3
 shallow_list [] = omega arith
 shallow_list (d ∷ ds) = omega (arith, shallow_list ds)
 
 pub publication_can_be_sent : (uri : List ℕ) (version : Option ℤ) (ds : List Diagnostic) → CanBeSent (publication_params uri version ds)
-publication_can_be_sent uri (Some version) ds = record { shallow = rw (whole_is_flat version) (omega (arith, shallow_list ds)) }
+publication_can_be_sent uri (Some version) ds = record { shallow = rw (flat_whole version) (omega (arith, shallow_list ds)) }
 publication_can_be_sent uri None ds = record { shallow = omega (arith, shallow_list ds) }
 
 shallow_edits : (es : List Edit) → items_depth (items_of (map edit_value es)) ≤ 3
@@ -24,7 +28,7 @@ pub edits_can_be_sent : (es : List Edit) → CanBeSent (edits_value es)
 edits_can_be_sent es = record { shallow = omega (arith, shallow_edits es) }
 
 edits_of_can : (document_changes : Bool) (client : Client) (uri : List ℕ) (version : ℤ) (es : List Edit) → client.takes_document_changes ≡ document_changes → CanBeSent (workspace_edit client uri version es)
-edits_of_can true client uri version es is = rw is (record { shallow = rw (whole_is_flat version) (omega (arith, shallow_edits es)) })
+edits_of_can true client uri version es is = rw is (record { shallow = rw (flat_whole version) (omega (arith, shallow_edits es)) })
 edits_of_can false client uri version es is = rw is (record { shallow = omega (arith, shallow_edits es) })
 
 pub workspace_edit_can_be_sent : (client : Client) (uri : List ℕ) (version : ℤ) (es : List Edit) → CanBeSent (workspace_edit client uri version es)
@@ -39,7 +43,7 @@ pub two_can : (d e : Data) → depth d ≤ 8 → depth e ≤ 8 → CanBeSent (ar
 two_can d e f g = record { shallow = omega (arith, f, g) }
 
 shallow_edit : (document_changes : Bool) (client : Client) (uri : List ℕ) (version : ℤ) (es : List Edit) → client.takes_document_changes ≡ document_changes → depth (workspace_edit client uri version es) ≤ 7
-shallow_edit true client uri version es is = rw (is, whole_is_flat version) (omega (arith, shallow_edits es))
+shallow_edit true client uri version es is = rw (is, flat_whole version) (omega (arith, shallow_edits es))
 shallow_edit false client uri version es is = rw is (omega (arith, shallow_edits es))
 
 pub shallow_action : (client : Client) (uri : List ℕ) (version : ℤ) (es : List Edit) (said : List ℕ) → depth (action_value (workspace_edit client uri version es) said) ≤ 8
