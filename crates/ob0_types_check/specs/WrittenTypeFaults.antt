@@ -37,6 +37,7 @@ pub record Gathered : Type 0 where
   pub fields : List FieldSoFar
   pub size : Size
   pub following : SoFar
+
 -- returns the state before the first field of a record, with no fields and no scalars
 -- returns the state with no fields yet
 abbrev pub nothing_gathered : SoFar → Gathered
@@ -45,6 +46,7 @@ nothing_gathered p = record { fields = []; size = no_scalar; following = p }
 -- returns the size of two parts next to each other
 abbrev pub beside : Size → Size → Size
 beside z w = record { scalars = z.scalars + w.scalars; depth = max z.depth w.depth }
+
 -- Returns the fields so far with one more field of this type added, whose name is at the token. The
 -- size of its type is added to the size.
 -- adds a field with this type
@@ -55,11 +57,13 @@ with_name t g token =
       size = beside g.size (size_at g.following.made t);
       following = g.following;
     }
+
 -- Returns the fields so far with a field of this type added for each of these name tokens.
 -- adds a field with this type for each of these names
 abbrev pub with_field_names : TypeId → Gathered → List ℕ → Gathered
 with_field_names t g [] = g
 with_field_names t g (x ∷ xs) = with_field_names t (with_name t g x) xs
+
 -- Returns the fields so far with the fields of one group added, given the group's name tokens, and
 -- its type with the state after it.
 -- adds the fields of one group, with the type that was read
@@ -74,6 +78,7 @@ record_size z = record { scalars = max z.scalars 1; depth = z.depth + 1 }
 -- returns the first name of a list
 abbrev pub first_name : Tree ℕ names → ℕ
 first_name (listed x rest) = x
+
 -- Returns the token before a group of fields, which is RECORD or a semicolon. `following` is the
 -- token between this group and the next one, and only matters if the group is empty.
 -- returns the token before a group of fields; `following` is the token before the next group
@@ -87,6 +92,7 @@ word_before no_fields following = token_before following
 abbrev pub record_word : Tree ℕ (items further_fields) → ℕ
 record_word end = 0
 record_word (more (then_fields g) rest) = word_before g (record_word rest)
+
 -- Makes a record type of the gathered fields, or reports `TypeTooLarge` at the token RECORD
 -- (`word`). `ordinal` is the ordinal of that word.
 -- makes a new record type, or reports `TypeTooLarge`
@@ -96,6 +102,7 @@ record_made word ordinal g = make g.following word ordinal (of_fields g.fields) 
 -- Returns the faults of a type that is inside `around` words ARRAY and RECORD.
 unfoldable mutual
   unfolding reported_expression
+
   -- returns the faults of a type, and the type with the state after it; the parts of an array or a
   -- record come first
   pub reported_type : ℕ → SoFar → Tree ℕ written_type → Reported TypedAfter
@@ -118,6 +125,7 @@ unfoldable mutual
   reported_fields around so_far (some_fields ns t) = do
     u ← reported_type around so_far.following t
     right (gathered_after so_far (names_listed ns) u)
+
   -- returns the faults of further groups of fields, and the earlier fields with the fields of these
   -- groups added
   pub reported_groups : ℕ → Gathered → Tree ℕ (items further_fields) → Reported Gathered
@@ -125,6 +133,7 @@ unfoldable mutual
   reported_groups around so_far (more (then_fields g) rest) = do
     next ← reported_fields around so_far g
     reported_groups around next rest
+
 -- returns the faults of one more group of fields, and the earlier fields with the fields of this
 -- group added
 unfoldable pub reported_group : ℕ → Gathered → Tree ℕ (item further_fields) → Reported Gathered
