@@ -106,9 +106,8 @@ UNKNOWN = "save before each edit, and compare afterwards"
 WRONG_EDIT = "If an edit goes wrong: undo it, save, close the file and open it again."
 LONE_CR = "Remove each CR that no LF follows: edits after it may be wrong."
 ASKED = (
-    "The guarantee is proved for every editor that keeps ob0's rules. In short: it tells the server every change, in order, with positions in "
-    "the agreed unit and texts of Unicode scalar values. It makes all edits of an answer as one change. It discards an answer if the document "
-    "has been changed, or closed and reopened, since the request."
+    "In short: the editor tells the server every change, in order, with positions in the agreed unit and texts of Unicode scalar values. "
+    "It makes all edits of an answer as one change. It discards an answer if its text is no longer the one that it asked about."
 )
 
 
