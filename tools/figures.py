@@ -1,6 +1,6 @@
-"""The figures of docs/ROBUSTNESS.md that a tool counts, in tools/figures.txt: a line for each case, with its name and what its last
-run came to: phrases of the page, and after them in parentheses what the page leaves out. tools/faults.py and bench/run.py write the lines that the list has, if they ran the proved program.
-A line with `(not run again)` has the figures that the page had before there was a list."""
+"""The figures of docs/ROBUSTNESS.md that a tool counts, in tools/figures.txt. A line for each case has its name and what its last run
+came to: phrases of the page, and then in parentheses what the page leaves out. tools/faults.py and bench/run.py write those lines that
+the list has, if they ran the proved program. `(not run again)` marks figures that the page had before there was a list."""
 from __future__ import annotations
 
 import functools
@@ -11,12 +11,11 @@ from collections import Counter
 import common
 
 LIST = os.path.join(common.TOP, "tools", "figures.txt")
-OLD = " (not run again)"
 EQUALS = " = "
 
 
 def rows() -> dict[str, str]:
-    """Each case of the list with its phrases, and whether they are old."""
+    """Each case of the list with its phrases."""
     with open(LIST, encoding="utf-8") as file:
         return dict(line.rstrip("\n").split(EQUALS, 1) for line in file)
 
@@ -37,9 +36,10 @@ def keep(found: dict[str, str], program: str) -> None:
     new = {name: phrases for name, phrases in found.items() if name in known and known[name] != phrases}
     if not new:
         return
-    is_proved = program == common.BINARY and common.is_current()
+    is_proved = os.path.abspath(program) == common.BINARY and common.is_current()
+    print("other figures than in tools/figures.txt" + (":" if is_proved else ", not kept, since this isn't the proved program:"))
     for name, phrases in sorted(new.items()):
-        print(f"{'figures' if is_proved else 'figures that are not kept, since the program is not bin/ob0 as proved'}: {name}{EQUALS}{phrases}")
+        print(f"  {name}{EQUALS}{phrases}")
     if is_proved:
         with open(LIST, "w", encoding="utf-8") as file:
             file.writelines(f"{name}{EQUALS}{phrases}\n" for name, phrases in sorted({**known, **new}.items()))
