@@ -83,8 +83,9 @@ def not_on_page(page: str) -> list[str]:
 
 
 LARGE = re.compile(r"\d[\d,]{2,}")  # a figure of a headline
-# the columns of figures, and what a row has that no tool counts
+# the columns of figures, a figure of memory in another, and what a row has whose figures no run writes
 COUNTED = ("How often", "Peak memory", "Memory held by 8", "By 64")
+MEMORY = re.compile(r"\d [KMG]i?B\b")
 BY_HAND = "(by hand)"
 
 
@@ -95,6 +96,7 @@ def not_in_list(page: str, others: dict[str, str]) -> list[str]:
     found = []
     for heads, line in tables(page):
         cells = dict(zip(heads, (it.strip() for it in line.strip("|").split("|"))))
-        if line not in listed and BY_HAND not in line and any(re.search(r"\d", cells.get(it, "")) for it in COUNTED):
+        has_figure = MEMORY.search(cells.get("Result", "")) or any(re.search(r"\d", cells.get(it, "")) for it in COUNTED)
+        if has_figure and line not in listed and BY_HAND not in line:
             found.append(line)
     return found
