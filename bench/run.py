@@ -3,6 +3,8 @@
 
   bench/run.py [WORD..]   the measurements whose names hold one of the words; with no word all of them
 
+The peak memory that docs/ROBUSTNESS.md has goes into tools/figures.txt, with which a test compares that page.
+
 The variable BESIDE may name another program with the same commands: runs, keys and the largest messages are then measured in it
 too."""
 from __future__ import annotations
@@ -27,6 +29,7 @@ sys.path[:0] = [HERE, os.path.join(os.path.dirname(HERE), "tests", "lib")]
 import corpus  # noqa: E402
 import keys  # noqa: E402
 from harness import BINARY, EXIT, SHUTDOWN, did_change, did_open, extent, frame, frames, initialize, place, request  # noqa: E402
+import figures  # noqa: E402
 from common import match_of  # noqa: E402
 from counting import instructions_of_conversation, lacks  # noqa: E402
 from framing import Incoming, Message  # noqa: E402
@@ -399,6 +402,7 @@ def largest() -> None:
     import largest_inputs
 
     nothing = best(3, lambda: Timed([BINARY, "serve"], frames([initialize(), SHUTDOWN, EXIT]))).processor
+    peaks = {}
     for name, (size, make) in largest_inputs.CASES.items():
         taken = []
         for count in (size // 2, size):
@@ -409,6 +413,8 @@ def largest() -> None:
                 said("NOTE: another answer was expected", f"{name}: status {found.status}, {len(found.out):,} bytes")
         (half, low), (whole, high) = taken
         said(f"{name}, {size:,}", f"{whole:7.3f} s, ratio {whole / half / 2:.2f}; {megabytes(high)}, of half of it {megabytes(low)}")
+        peaks[f"large: {name}"] = f"{name} | {size:,} | {high / MIB:.0f} MiB"
+    figures.keep(peaks, BINARY)
 
 
 ABLE: Message = {"textDocument": {"codeAction": {"codeActionLiteralSupport": {}}}}
@@ -574,16 +580,22 @@ def made_smaller() -> None:
     kinds: dict[str, Callable[[str], list[Message]]] = {
         "modules in all steps": keys.made_smaller,
         "refused by the parser in all steps": lambda uri: keys.made_smaller(uri, first="x:=;\n"),
-        "a bad character at the end": lambda uri: keys.made_smaller(uri, last="$\n"),
-        "lines that go by one range": keys.emptied,
+        "modules, with a bad character at the end": lambda uri: keys.made_smaller(uri, last="$\n"),
+        "a million line endings, removed by one change": keys.emptied,
     }
+    taken = {}
     for name, talk_of in kinds.items():
+        held = [name]
         with Talk("MODULE M; END M.") as talk:
             for number in range(64):
                 for message in talk_of(f"file:///{number}"):
                     talk.after(message)
                 if number + 1 in (8, 64):
-                    said(f"{name}, {number + 1} of them: memory", megabytes(memory_now(talk.process.pid)))
+                    memory = memory_now(talk.process.pid)
+                    held.append(f"{memory / MIB:.0f} MiB")
+                    said(f"{name}, {number + 1} of them: memory", megabytes(memory))
+        taken[f"made smaller: {name}"] = " | ".join(held)
+    figures.keep(taken, BINARY)
 
 
 @measure("questions: references of one name, on 100 KB and 1 MB")
@@ -672,13 +684,16 @@ def largest_message() -> None:
         found = best(3, lambda: Timed([program, "serve"], given))
         return found.processor, found.memory
 
-    values = {"numbers": b"0", "objects": b"{}", "objects of an object": b'{"a":{}}', "objects in 124 others": b'{"":' * 124 + b"0" + b"}" * 124}
+    values = {"`0,`": b"0", "`{},`": b"{}", '`{"a":{}},`': b'{"a":{}}', "numbers inside 124 objects": b'{"":' * 124 + b"0" + b"}" * 124}
+    peaks = {}
     for name, one in values.items():
         (half, low), (whole, high) = each(one, 8 * MIB), each(one, 16 * MIB - 64)
         said(f"a message of {name}", f"{whole:7.3f} s, ratio {whole / half / 2:.2f}; {megabytes(high)}, of half of it {megabytes(low)}")
+        peaks[f"one message: {name}"] = f"16 MiB of {name} | {high / MIB:,.0f} MiB"
         if os.environ.get("BESIDE"):
             seconds, memory = each(one, 16 * MIB - 64, os.environ["BESIDE"])
             said(f"a message of {name}, beside", f"{seconds:7.3f} s  {megabytes(memory)}  ratios {whole / seconds:.2f} and {high / memory:.2f}")
+    figures.keep(peaks, BINARY)
 
 
 @measure("rename: from the request to the end of its answer, on 1 MiB")

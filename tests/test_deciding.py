@@ -44,7 +44,7 @@ def faults_count() -> None:
         ("random runs", raises(Failed("another end"))),
         ("changes by keys", raises(harness.Skipped("no Kate"))),
     ]
-    with mock.patch.object(faults, "all_of_it", lambda: iter(rows)):
+    with mock.patch.object(faults, "all_of_it", lambda: iter(rows)), mock.patch.object(faults.figures, "keep"):
         for words, status, last in (
             ([], 1, "1 passed, 1 failed, 1 skipped"),
             (["random texts"], 0, "1 passed, 0 failed"),

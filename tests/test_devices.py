@@ -15,6 +15,7 @@ import harness
 from first_conversation import BORDERS, INPUT, OUT, OUTPUT
 from harness import EXIT, Ended, SHUTDOWN, did_change, did_open, frame, frames, holds, initialize, same, serve, test
 
+LIMITS = [*range(3000, 9000, 250), *range(9000, 60000, 3000)]  # in kilobytes
 TALK = [initialize(), did_open(corpus.module(200000)), did_change("$"), SHUTDOWN, EXIT]
 
 
@@ -31,7 +32,7 @@ def memory() -> None:
     contents = whole.contents()
     fronts = [frames(contents[:count]) for count in range(len(contents) + 1)]
     ends = {"refused": 0, "done": 0}
-    for kilobytes in [*range(3000, 9000, 250), *range(9000, 60000, 3000)]:
+    for kilobytes in LIMITS:
         status, err, out = limited(kilobytes)
         if status == 127:
             continue  # (the loader itself had too few addresses)

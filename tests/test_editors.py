@@ -14,6 +14,7 @@ import os
 import random
 import re
 import shutil
+import time
 import zipfile
 from collections.abc import Iterator
 from typing import Any, Callable, Dict, List, Tuple, Type, TypeVar
@@ -684,7 +685,9 @@ END M.
 """
 NEW_LINE = "(* new *)\n"
 LATE_AT = {keyed.RENAME: (2, 4), keyed.ACTION: (6, 8), keyed.LAYOUT: (0, 0)}
-HELD = 0.4  # how many seconds an answer is held at least before an editor that waits for it
+# how many seconds an answer is held at least before an editor that waits for it, and how many times as long as the editor took to
+# write its text before: so a slow one, which doesn't wait, is seen to take keys
+HELD, HELD_TIMES = 0.4, 3
 WHEN = ["in the first version", "in a later version", "closed and opened again"]
 
 
@@ -694,7 +697,9 @@ def is_late(editor: keyed.Keyed, asked: str, when: str) -> None:
     keys, method, waits = editor.asks[asked]
     write(editor.file, LATE)
     editor.keys(editor.reopening())
+    start = time.monotonic()
     same(editor.text(comes_last=True), LATE, f"the text before the {asked}")
+    held = max(HELD, HELD_TIMES * (time.monotonic() - start))
     editor.reports(LATE)
     for typed, text in ((editor.line_above, NEW_LINE + LATE), (editor.line_removed, LATE)) if when == WHEN[1] else ():
         editor.keys(typed)
@@ -708,7 +713,7 @@ def is_late(editor: keyed.Keyed, asked: str, when: str) -> None:
     editor.keys(editor.reopening() if when == WHEN[2] else editor.line_above)
     asked_for = editor.asked_for_text()
     if waits:
-        holds(not editor.waits(lambda: asked_for() is not None, HELD), f"it takes keys while it waits for the {asked}")
+        holds(not editor.waits(lambda: asked_for() is not None, held), f"it takes keys while it waits for the {asked}")
     else:
         editor.await_("the line above", lambda: asked_for() is not None)
     editor.wire.release()
@@ -851,24 +856,13 @@ def neovim_chosen_late() -> None:
 @test("Neovim: two copies of the files start one server")
 def neovim_copied_twice() -> None:
     class Twice(keyed.Neovim):
-        # (Neovim 0.8 and later have `vim.lsp.start`, which starts none for a second time)
-        lines = keyed.Neovim.lines + """
-_G.started = 0
-local start = vim.lsp.start_client
-vim.lsp.start_client = function(...)
-  started = started + 1
-  return start(...)
-end
-"""
-
         def settings(self) -> dict[str, str]:
             start = os.path.join(self.folder, ".local", "share", "nvim", "site", "pack")
             shutil.copytree(os.path.join(start, "ob0"), os.path.join(start, "another"))
             return super().settings()
 
     def counted(editor: keyed.Keyed) -> None:
-        editor.keys(f"{keyed.NORMAL}:call setline(1, luaeval('started'))\r")
-        started = int(editor.text().split("\n")[0])
-        holds(started <= 1, f"{started} servers were started")
+        editor.text(comes_last=True)
+        same(len(editor.wire.sent("initialize")), 1, "the servers that were started")
 
     by_keys(counted, Twice, LATE, "Neovim")

@@ -9,7 +9,8 @@ from collections.abc import Callable
 import nested_modules
 from harness import EXIT, Message, SHUTDOWN, did_open, ends, frames, initialize, on_file, place, same, serve, test
 
-MIXES = int(os.environ.get("OB0_MIXES", "400"))
+USUAL = 400
+MIXES = int(os.environ.get("OB0_MIXES", USUAL))
 STACK = 4096  # kilobytes, half of what systems give
 
 

@@ -214,16 +214,20 @@ def compressed() -> None:
     same(gzip.decompress(package.squeezed(b"some text")), b"some text", "what was compressed")
 
 
+@test("release: the versions of glibc that a program needs are those that objdump prints")
+def as_by_objdump() -> None:
+    want("objdump")
+    said = subprocess.run(["objdump", "-p", "/bin/true"], stdout=subprocess.PIPE, check=True).stdout.decode()
+    found = re.findall(r"^ +0x\w+ 0x\w+ \d+ (\S+)$", said, re.M)
+    same(sorted(it for _, it in glibc.needs("/bin/true")), sorted(found), "the versions that it needs")
+
+
 @test("release: the package depends on the glibc that the program's symbols need")
 def needed() -> None:
     with repository() as made, temporary() as room:
         with open("/bin/true", "rb") as file:
             content = file.read()
         latest = glibc.needed("/bin/true")
-        if shutil.which("objdump"):
-            said = subprocess.run(["objdump", "-p", "/bin/true"], stdout=subprocess.PIPE, check=True).stdout.decode()
-            found = re.findall(r"^ +0x\w+ 0x\w+ \d+ (\S+)$", said, re.M)
-            same(sorted(it for _, it in glibc.needs("/bin/true")), sorted(found), "the versions that it needs, by objdump")
         # (the same program, which needs a later one)
         other = latest[:-1] + str((int(latest[-1]) + 1) % 10)
         program = os.path.join(room, "program")

@@ -102,6 +102,7 @@ DESKTOP = {
     "mandoc": (here("mandoc"), "mandoc"),
     "tmux": (here("tmux"), "tmux"),
     "mypy": (here("mypy"), "mypy"),
+    "objdump": (here("objdump"), "binutils"),
     "gpg": (here("gpg"), "gnupg"),
     "package-lint": (in_emacs("package-lint"), "elpa-package-lint"),
     "use-package": (in_emacs("use-package"), "elpa-use-package"),

@@ -9,8 +9,9 @@ documents, each answer compared with that of a server that keeps nothing; many c
 It runs bin/ob0 (or the program that the variable OB0 names) and the programs of tests that `make test` or `rt test` left in
 crates/NAME/out. OB0_LONG is how many messages each long conversation has (100,000), OB0_CHANGES how many random changes are
 tried (20,000), OB0_RUNS how many random modules are run (20,000), OB0_WALK about how many allocations of one test fail
-(10,000): of more, each second, third and so on. The last line is 'N passed, M failed', and ', K skipped' if something was left out
-for a missing tool; a run of nothing fails."""
+(10,000): of more, each second, third and so on. What the cases of tools/figures.txt come to, at no fewer than these counts, is written
+there; a test compares docs/ROBUSTNESS.md with it. The last line is 'N passed, M failed', and ', K skipped' if something was left out for
+a missing tool; a run of nothing fails."""
 from __future__ import annotations
 
 import functools
@@ -20,6 +21,7 @@ import time
 from collections.abc import Callable, Iterator
 
 import common
+import figures
 from common import TOP
 
 sys.dont_write_bytecode = True
@@ -35,18 +37,21 @@ import refused_tests  # noqa: E402
 import several_documents  # noqa: E402
 import test_editors  # noqa: E402
 
-WALK = int(os.environ.get("OB0_WALK", "10000"))
-LONG = int(os.environ.get("OB0_LONG", "100000"))
-TEXTS = int(os.environ.get("OB0_TEXTS", "20000"))
-CHANGES = int(os.environ.get("OB0_CHANGES", "20000"))
-RUNS = int(os.environ.get("OB0_RUNS", "20000"))
+COUNTS = {"OB0_WALK": 10000, "OB0_LONG": 100000, "OB0_TEXTS": 20000, "OB0_CHANGES": 20000, "OB0_RUNS": 20000}
+WALK, LONG, TEXTS, CHANGES, RUNS = (int(os.environ.get(name, count)) for name, count in COUNTS.items())
 KEYED_CHANGES = 200  # in each editor and kind of file
 SEED = int(os.environ.get("OB0_SEED", "0"))
 
 
 def walked(key: str) -> str:
     counts = failing.refused(key, *{**conversations.SHORT, **conversations.LONG}[key])
-    return f"{sum(counts.values()):,} runs: {counts['refused']:,} ended with status 5, {counts['undisturbed']:,} as without refusal"
+    ended = f"{counts['refused']:,} ended with status 5; {counts['undisturbed']:,} ended as if nothing had been refused"
+    return f"{sum(counts.values()):,} runs; {ended}"
+
+
+def on_devices(does: Callable[..., int]) -> str:
+    talks = {**conversations.SHORT, **conversations.LONG}
+    return figures.summed([f"{does(key, *case[:3]):,}" for key, case in talks.items()])
 
 
 def checks_of(crate: str) -> list[tuple[str, Callable[[], str]]]:
@@ -62,7 +67,10 @@ def all_of_it() -> Iterator[tuple[str, Callable[[], str]]]:
         yield f"refused memory: {key}", functools.partial(walked, key)
     for crate in refused_tests.CRATES:
         for name, does in checks_of(crate):
-            yield f"refused memory: {crate}, {name}", does
+            # (the last compares the runs of two of the others)
+            yield f"refused memory, {crate}{'' if '::' in name else ', compared'}: {name}", does
+    yield "devices: each read and each write fails", functools.partial(on_devices, failing.broken)
+    yield "devices: each read and each write moves one byte", functools.partial(on_devices, failing.shortened)
     yield f"a long conversation: {LONG:,} messages", lambda: long_conversation.converse(LONG)
     yield f"random changes: {CHANGES:,}", lambda: random_changes.many_changes(CHANGES, SEED, failing.PROCESSORS)
     yield f"a long conversation about several documents: {LONG:,} messages", lambda: several_documents.converse(LONG, SEED)
@@ -72,8 +80,20 @@ def all_of_it() -> Iterator[tuple[str, Callable[[], str]]]:
     yield f"random runs: {RUNS:,} modules", lambda: against_reference.many_runs(RUNS, SEED, failing.PROCESSORS)
 
 
+def keep(lines: dict[str, str]) -> None:
+    """Keeps the figures of each case that has a line, and of all cases with the same words before the colon if each has one."""
+    kinds: dict[str, list[str]] = {}
+    for name, _ in all_of_it():
+        for kind in {name, name.partition(": ")[0]}:
+            kinds.setdefault(kind, []).append(name)
+    known = figures.rows()
+    found = {kind: [lines[it] for it in names] for kind, names in kinds.items() if kind in known and all(it in lines for it in names)}
+    figures.keep({kind: its[0] if len(its) == 1 else figures.summed(its) for kind, its in found.items()}, harness.BINARY)
+
+
 def main(words: list[str]) -> int:
     passed = failed = skipped = 0
+    lines: dict[str, str] = {}
     for name, does in all_of_it():
         if words and not any(it in name for it in words):
             continue
@@ -90,6 +110,9 @@ def main(words: list[str]) -> int:
             continue
         print(f"ok       {name}: {found} ({time.monotonic() - start:.1f} s)", flush=True)
         passed += 1
+        lines[name] = found
+    if not SEED and all(int(os.environ.get(name, count)) >= count for name, count in COUNTS.items()):
+        keep(lines)
     if not passed + failed:
         print("nothing was run")
         failed = 1

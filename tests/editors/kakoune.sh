@@ -1,3 +1,4 @@
+#!/bin/sh
 # Kakoune without a screen: the file type of each file that is named, into OB0_REPORT, what `lint` finds in a faulty file
 # before and after it is mended, the type of a new file before and after it is saved, and what :comment-line does.
 #

@@ -117,4 +117,5 @@ def converse(count: int, seed: int = 0) -> str:
         holds(late <= early * 1.1 + 256, f"{early} KiB after a quarter of the messages, {late} KiB at the end")
         same(server.end(), 0, "the status")
     holds(published and empty and empty < published, f"{published} publications, {empty} of them empty")
-    return f"{published:,} publications, {empty:,} of them empty, each as `check` has it; {early:,} KiB after a quarter, {late:,} KiB at the end"
+    memory = f"{early:,} KiB after a quarter of the messages; {late:,} KiB at the end"
+    return f"{count:,} messages; {published:,} publications; {empty:,} of them empty; {memory}"

@@ -252,9 +252,9 @@ def figures(conversations: list[Counter[str]]) -> str:
     holds(count < 1000 or short * 2 > count, f"of {count:,} changes only {short:,} leave what is known but for one body")
     kinds = ", ".join(f"{found[it]:,} {it}" for it in WAYS)
     faults = ", ".join(f"{found[it]:,} of {it}" for it in FAULTS)
-    return (f"{count:,} changes, after each what a new server says: {found['no fault']:,} texts without a fault; {kinds}; "
+    return (f"{count:,} changes (after each what a new server says: {found['no fault']:,} texts without a fault; {kinds}; "
             f"of the other statements {found['statements without a fault']:,} with no fault before and after; "
-            f"those in one body beside faults: {faults}")
+            f"those in one body beside faults: {faults})")
 
 
 def seeds_of(count: int, first: int) -> range:

@@ -166,4 +166,4 @@ def converse(count: int, seed: int = 0) -> str:
     missing = [it for it in QUESTIONS if it not in kinds]
     # (in a short conversation no place of an action may come up)
     holds(count < 4000 or not missing, f"no answer to {missing} said anything")
-    return f"{compared:,} answers, {compared - kinds[None]:,} of them with a result, each as a new server gives it"
+    return f"{count:,} messages; {compared:,} answers; {compared - kinds[None]:,} of them with a result"

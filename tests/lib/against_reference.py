@@ -68,7 +68,7 @@ def many_texts(count: int, first: int, processes: int) -> str:
     parts = [range(at, min(at + size, first + count)) for at in range(first, first + count, size)]
     with concurrent.futures.ProcessPoolExecutor(processes) as pool:
         faulty = sum(pool.map(compare, parts))
-    return f"{count:,} texts, {faulty:,} of them with faults, each with the diagnostics of the reference"
+    return f"{count:,} texts; {faulty:,} of them with errors"
 
 
 class Short(Run):
@@ -109,7 +109,7 @@ def counted(found: Iterable[str]) -> str:
     """How often each end came, as a line; at least half of the runs have to be compared."""
     counts = collections.Counter(found)
     holds(2 * counts[LONG] <= sum(counts.values()), f"too few runs were compared: {counts}")
-    return ", ".join(f"{name} {counts[name]:,}" for name in sorted(counts))
+    return "; ".join(f"{counts[name]:,} with `{name}`" for name in sorted(counts))
 
 
 def of_either(seed: int) -> str:
@@ -120,4 +120,4 @@ def many_runs(count: int, first: int, processes: int) -> str:
     """This many runs, half of them with arrays and records that are passed and copied, by some processes. Returns a line with figures."""
     with concurrent.futures.ProcessPoolExecutor(processes) as pool:
         ends = list(pool.map(of_either, range(first, first + count), chunksize=50))
-    return f"{len(ends) - ends.count(LONG):,} runs, each as by the reference: {counted(ends)}"
+    return f"{len(ends) - ends.count(LONG):,} runs; {counted(ends)}"

@@ -59,7 +59,7 @@ def plays_exactly(crate: str) -> str:
     for number, (one, other) in enumerate(itertools.zip_longest(ones, others, fillvalue=whole), 1):
         same(one, other, f"what was played with allocation {number} refused")
     holds(len({it[0][0] for it in others}) > whole[0][0] // 2, "hardly any event was refused")
-    return f"{len(others):,} allocations refused"
+    return f"{len(others):,} allocations"
 
 
 def walk(crate: str, test: str, most: int) -> str:
@@ -74,7 +74,7 @@ def walk(crate: str, test: str, most: int) -> str:
         where = f"{test}, allocation {run.numbers[0]} of {calls}"
         holds(run.is_touched, f"{where} wasn't refused")
         same((run.status, run.out.endswith(b"test result: ok\n")), (0, True), f"{where}: {run.err.decode(errors='replace')}")
-    return f"{len(numbers):,} of {calls:,} allocations refused"
+    return f"{len(numbers):,} allocations" + (f"; {calls:,} in all" if len(numbers) < calls else "")
 
 
 def checks(crate: str, most: int) -> Iterator[tuple[str, Callable[[], str]]]:

@@ -9,7 +9,8 @@ from typing import List
 
 import common
 
-COUNT = int(os.environ.get("OB0_RANDOM", "300"))
+USUAL = 300
+COUNT = int(os.environ.get("OB0_RANDOM", USUAL))
 
 
 @functools.lru_cache(None)

@@ -1,0 +1,102 @@
+"""The figures of docs/ROBUSTNESS.md that a tool counts, in tools/figures.txt. A line for each case has its name and what its last run
+came to: phrases of the page, and then in parentheses what the page leaves out. tools/faults.py and bench/run.py write those lines that
+the list has, if they ran the proved program. `(not run again)` marks figures that the page had before there was a list."""
+from __future__ import annotations
+
+import functools
+import os
+import re
+from collections import Counter
+
+import common
+
+LIST = os.path.join(common.TOP, "tools", "figures.txt")
+EQUALS = " = "
+
+
+def rows() -> dict[str, str]:
+    """Each case of the list with its phrases."""
+    with open(LIST, encoding="utf-8") as file:
+        return dict(line.rstrip("\n").split(EQUALS, 1) for line in file)
+
+
+def summed(lines: list[str]) -> str:
+    """The phrases of several runs as those of one: the sum of the numbers before the same words, and how many runs they were."""
+    counts: Counter[str] = Counter()
+    for phrase in "; ".join(lines).split("; "):
+        number, _, words = phrase.partition(" ")
+        counts[words] += int(number.replace(",", ""))
+    return "; ".join([*(f"{count:,} {words}".strip() for words, count in counts.items()), f"{len(lines)} cases"])
+
+
+def keep(found: dict[str, str], program: str) -> None:
+    """Writes the phrases of those cases that the list has, and says which changed. Figures of another program than the proved one are
+    only printed."""
+    known = rows()
+    new = {name: phrases for name, phrases in found.items() if name in known and known[name] != phrases}
+    if not new:
+        return
+    is_proved = os.path.abspath(program) == common.BINARY and common.is_current()
+    print("other figures than in tools/figures.txt" + (":" if is_proved else ", not kept, since this isn't the proved program:"))
+    for name, phrases in sorted(new.items()):
+        print(f"  {name}{EQUALS}{phrases}")
+    if is_proved:
+        with open(LIST, "w", encoding="utf-8") as file:
+            file.writelines(f"{name}{EQUALS}{phrases}\n" for name, phrases in sorted({**known, **new}.items()))
+
+
+def has(text: str, phrase: str) -> bool:
+    """Whether a phrase is in a text, and its first number isn't the end of another."""
+    return phrase in text and bool(re.search(rf"(?<![\d.,]){re.escape(phrase)}(?!\d|[.,]\d)", text))
+
+
+@functools.lru_cache(8)
+def tables(page: str) -> list[tuple[list[str], str]]:
+    """The rows of a page's tables, each with the heads of its columns."""
+    heads: list[str] = []
+    found: list[tuple[list[str], str]] = []
+    for line in page.split("\n"):
+        cells = [it.strip() for it in line.strip("|").split("|")]
+        if not line.startswith("|"):
+            heads = []
+        elif not heads:
+            heads = cells
+        elif set(line) - set("|-"):
+            found.append((heads, line))
+    return found
+
+
+def rows_of(page: str, phrases: str) -> list[str]:
+    """The rows of a page's tables that have each of these phrases."""
+    wanted = re.sub(r" \(.*", "", phrases).split("; ")
+    return [line for _, line in tables(page) if all(has(line, it) for it in wanted)]
+
+
+def has_row(page: str, words: str, phrase: str) -> bool:
+    """Whether a row of a page's tables has these words and this phrase."""
+    return any(words in line for line in rows_of(page, phrase))
+
+
+def not_on_page(page: str) -> list[str]:
+    """The lines of the list whose phrases are in no row of the page."""
+    return [f"{name}{EQUALS}{phrases}" for name, phrases in rows().items() if not rows_of(page, phrases)]
+
+
+LARGE = re.compile(r"\d[\d,]{2,}")  # a figure of a headline
+# the columns of figures, a figure of memory in another, and what a row has whose figures no run writes
+COUNTED = ("How often", "Peak memory", "Memory held by 8", "By 64")
+MEMORY = re.compile(r"\d [KMG]i?B\b")
+BY_HAND = "(by hand)"
+
+
+def not_in_list(page: str, others: dict[str, str]) -> list[str]:
+    """The rows of the page with a figure that is neither in the list, nor one of these others, nor marked as counted by hand."""
+    listed = {line for phrases in rows().values() for line in rows_of(page, phrases)}
+    listed |= {line for what, phrase in others.items() for line in rows_of(page, phrase) if what in line}
+    found = []
+    for heads, line in tables(page):
+        cells = dict(zip(heads, (it.strip() for it in line.strip("|").split("|"))))
+        has_figure = MEMORY.search(cells.get("Result", "")) or any(re.search(r"\d", cells.get(it, "")) for it in COUNTED)
+        if has_figure and line not in listed and BY_HAND not in line:
+            found.append(line)
+    return found
