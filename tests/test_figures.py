@@ -74,13 +74,14 @@ def kept() -> None:
     before = "memory = 9 runs (not run again)\nother = 7 things\ntexts = 19 texts\n"
     usual = {name: str(count) for name, count in faults.COUNTS.items()}
     summed = "memory = 1,500 runs; 6 ended; 2 cases\n"
-    for words, is_current, environment, wanted in (
+    runs: List[Tuple[List[str], bool, Dict[str, str], str]] = [
         ([], True, {}, summed + "other = 7 things\ntexts = 20 texts (of 4 kinds)\n"),
         (["memory"], True, {"OB0_TEXTS": "30000"}, summed + "other = 7 things\ntexts = 19 texts\n"),
         (["memory: one"], True, {}, before),
         ([], False, {}, before),
         ([], True, {"OB0_TEXTS": "20"}, before),
-    ):
+    ]
+    for words, is_current, environment, wanted in runs:
         with temporary() as room:
             path = os.path.join(room, "list")
             write(path, before)
