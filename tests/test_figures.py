@@ -72,20 +72,22 @@ def kept() -> None:
     lines = {"memory: one": "1,200 runs; 5 ended", "memory: two": "300 runs; 1 ended", "texts: 20": "20 texts (of 4 kinds)", "keys": "200 changes"}
     rows: List[Tuple[str, Callable[[], str]]] = [(name, functools.partial(str, line)) for name, line in lines.items()]
     before = "memory = 9 runs (not run again)\nother = 7 things\ntexts = 19 texts\n"
+    usual = {name: str(count) for name, count in faults.COUNTS.items()}
     summed = "memory = 1,500 runs; 6 ended; 2 cases\n"
-    for words, is_current, environment, wanted in (
+    runs: List[Tuple[List[str], bool, Dict[str, str], str]] = [
         ([], True, {}, summed + "other = 7 things\ntexts = 20 texts (of 4 kinds)\n"),
         (["memory"], True, {"OB0_TEXTS": "30000"}, summed + "other = 7 things\ntexts = 19 texts\n"),
         (["memory: one"], True, {}, before),
         ([], False, {}, before),
         ([], True, {"OB0_TEXTS": "20"}, before),
-    ):
+    ]
+    for words, is_current, environment, wanted in runs:
         with temporary() as room:
             path = os.path.join(room, "list")
             write(path, before)
             with mock.patch.object(figures, "LIST", path), mock.patch.object(faults, "all_of_it", lambda: iter(rows)), \
                     mock.patch.object(common, "is_current", lambda: is_current), mock.patch.object(faults.harness, "BINARY", common.BINARY), \
-                    mock.patch.dict(os.environ, environment), mock.patch("builtins.print"):
+                    mock.patch.object(faults, "SEED", 0), mock.patch.dict(os.environ, {**usual, **environment}), mock.patch("builtins.print"):
                 same(faults.main(words), 0, f"the status of {words}")
             same(text_of(path), wanted, f"the list after {words}, {environment}, {'the' if is_current else 'no'} proved program")
     holds(figures.has("1,500 runs", "1,500 runs") and not figures.has("11,500 runs", "1,500 runs"), "a figure inside another")
