@@ -1,12 +1,12 @@
--- Defines the byte offsets at which the lines of a text start. Only the bytes on both sides decide
--- whether a line starts at an offset: it starts after LF, and after a CR that no LF follows.
--- `starts_after` gives the starts in a run of bytes, if the bytes after the run are known. The
--- text's start counts as an offset after an LF, so the whole table is `starts_after 0 (LF ∷ bytes)
--- []`. `StartLaws.table` proves this, from the starts after each character (`following_ends`). The
--- function can be split at any place (`following-append`), depends only on the first byte after the
--- run (`following-next`), and shifts with its offset (`following-moved`). So a change keeps the
--- starts before it, tests its own bytes and one on either side, and shifts the starts after it
--- (`table-mended`). A CR and an LF that a change joins or separates need no separate case.
+-- Defines the byte offsets at which the lines of a text start. A line starts after an LF, and after
+-- a CR that no LF follows. So the two bytes next to an offset decide. The text's start counts as an
+-- offset after an LF, so the whole table is `starts_after 0 (LF ∷ bytes) []` (`StartLaws.table`,
+-- from the starts after each character, `following_ends`). The starts in a run of bytes are those
+-- of its first part followed by those of its second part (`following-append`). They depend only on
+-- the first byte after the run (`following-next`), and shift with its offset (`following-moved`).
+-- So a change keeps the starts before it, tests its own bytes and one on either side, and shifts
+-- the starts after it (`table-mended`). A CR and an LF that a change joins or separates need no
+-- separate case.
 -- Rule: docs/PROTOCOL.md, Positions 2 (by bytes, for the table of lines).
 use Rattle.std.specs.Prelude.{◌≡◌, ℕ, suc, ◌+◌, ◌-◌, ◌<◌, ◌≤◌, if◌then◌else◌, List, [], ◌∷◌, ◌++◌, length, map, reverse, slice_index, refl}
 use Rattle.std.specs.Str.{chars}
@@ -45,8 +45,8 @@ AllUnder bound ns = (k : ℕ) → k < length ns → slice_index ns k < bound
 abbrev pub AllFrom : ℕ → List ℕ → Type 0
 AllFrom bound ns = (k : ℕ) → k < length ns → bound ≤ slice_index ns k
 
--- Holds if `count` starts are before the offset: however the list is split into starts below the
--- offset and starts at or above it, the first part has this length.
+-- Holds if `count` is the number of starts below the offset: however the list is split into starts
+-- below the offset and starts at or above it, the first part has this length.
 abbrev pub IsCountBefore : List ℕ → ℕ → ℕ → Type 0
 IsCountBefore starts offset count =
     (front back : List ℕ) → starts ≡ front ++ back → AllUnder offset front → AllFrom offset back
@@ -63,8 +63,9 @@ text_code =
     code_by (List ℕ × Unit) (coded× (coded_list coded_ℕ) unit_code) (λ t. (t.text, t.unit))
     (λ p. record { text = p.0; unit = p.1 }) (λ t. refl)
 
--- Returns the line starts that two lists store. The second list has distances from the end of a
--- text of length `len`, the last line first.
+-- Returns the line starts that two lists store. The first list has the starts of the first lines.
+-- The second has the other lines, the last one first: the distances of their starts from the end of
+-- a text of length `len`.
 abbrev pub starts_in : ℕ → List ℕ → List ℕ → List ℕ
 starts_in len front back = front ++ map (λ d. len - d) (reverse back)
 

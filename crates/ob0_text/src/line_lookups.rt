@@ -1,16 +1,17 @@
 //! Looks up offsets and positions with the table of a text's lines.
 //!
 //! `starts_before` is a binary search. Its contract covers each split of the table into offsets
-//! below a bound and offsets at or above it: the result is the length of the first part. The loop
-//! keeps this length between its two ends (`in_front`, `not_in_front` in `Halving`). A pass may
-//! begin at the start of any line (`line_counted`, `line_sought` in `LinePlaces`). So correctness
-//! doesn't depend on finding the nearest line; that only saves time.
+//! below a bound and offsets at or above it: the result is the length of the first part. In the
+//! loop this length stays between `low` and `high` (`in_front`, `not_in_front` in `Halving`). A
+//! pass may begin at the start of any line (`line_counted`, `line_sought` in `LinePlaces`). So the
+//! result is correct whichever line it begins at; the nearest one only saves time.
 //!
-//! In a list, each look-up continues at the previous place if the next one follows in the same line
-//! or less than 32 bytes later. Otherwise it starts at the beginning of the line, which the table
-//! gives (`nearest_before`, `place_after`). So places in one line cost only the text between them,
-//! and each other place costs a binary search. In one long line this is a single pass, as in the
-//! plain store. If both ends of a changed range are in one line, one pass finds them (`bounds_in`).
+//! In a list of offsets or positions, each look-up continues at the previous place if the next one
+//! follows in the same line or less than 32 bytes later. Otherwise it starts at the beginning of
+//! the line, which the table gives (`nearest_before`, `place_after`). So places in one line take
+//! time only for the text between them, and each other place takes a binary search. In one long
+//! line this is a single pass, as in the plain store `Whole`. If both ends of a changed range are
+//! in one line, one pass finds them (`bounds_in`).
 
 ghost use Rattle.std.specs.Prelude.{◌≡◌, ◌+◌, ◌-◌, ◌<◌, ◌≤◌, IfOk, length, map, min, slice_get, slice_index};
 ghost use Rattle.std.specs.Option.{option_map};
@@ -28,8 +29,8 @@ use crate::passes::{PassState, START, is_from, onward_to_offset, onward_to_posit
 use crate::position_types::{Position, Range, Unit};
 use std::alloc::{AllocError, Global};
 
-/// The number of bytes within which an offset is near: a pass continues to a near offset without a
-/// look-up.
+/// The distance in bytes below which an offset is near: a pass continues to a near offset without a
+/// look-up in the table.
 const NEAR: usize = 32;
 
 /// Returns the byte offset of a position.
@@ -80,7 +81,7 @@ pub fn bounds_in(
     }
 }
 
-/// Returns a counted piece with nearly all characters before a position in its line. Counting
+/// Counts a piece of the position's line that ends at or shortly before the position. Counting
 /// begins at the piece that was counted last (`last`).
 fn counted_before(
     text: &str,
@@ -103,8 +104,8 @@ fn counted_before(
     }
 }
 
-/// Returns the place of a position. The search begins after the counted part of the line if that
-/// part is before the position, otherwise at the start of the line.
+/// Returns the place of a position. The search begins after the counted part of its line if that
+/// part ends at or before the position, otherwise at the start of the line.
 fn place_after_counted(
     text: &str,
     table: &LineTable,
@@ -239,7 +240,7 @@ fn nearest_before(text: &str, table: &LineTable, place: PassState, offset: usize
     start
 }
 
-/// Returns the start of the line that contains a byte offset, by binary search.
+/// Returns the place at which the line of a byte offset starts. The line is found by binary search.
 fn line_before(text: &str, table: &LineTable, offset: usize) -> PassState
     requires { HasLines text.now table.now }
     ensures place { (unit : Unit) → IsPlace (width_of unit) text.now result }

@@ -56,8 +56,9 @@ fn byte_before(bytes: &[u8], offset: usize) -> u8
     }
 }
 
-/// Appends the offsets before, in and right after `bytes` at which a line starts. `bytes` begins at
-/// the offset `from`, after the byte `before`. The bytes `following` come after `bytes`.
+/// Appends the offsets at which a line starts, from the start of `bytes` to its end, both included.
+/// `bytes` begins at the offset `from`, after the byte `before`. The bytes `following` come after
+/// `bytes`.
 fn add_starts(
     starts: &mut Vec<usize>,
     from: usize,

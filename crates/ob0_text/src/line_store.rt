@@ -23,7 +23,7 @@ use std::alloc::{AllocError, Global};
 use std::marker::Model;
 
 /// A text with the table of its lines. A look-up takes time only for one line. A change in the line
-/// of the previous change takes time only for the text between the two.
+/// of the previous change takes time only for the text between the two changes.
 #[derive(Drop)]
 pub struct Lines {
     text: String,

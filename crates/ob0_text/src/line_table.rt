@@ -1,11 +1,11 @@
 //! Keeps the table of a text's lines, in two parts.
 //!
 //! Line starts before the last change are kept as offsets. The starts after it are kept as
-//! distances from the text's end, last line first. So the starts after a change keep their
-//! distances (`with_the_end` in `LineTables`). A change costs time for the starts that it adds or
-//! drops, and for the starts between it and the previous change. `move_left` and `move_right` move
-//! the latter; their clauses say that no start changes. Changes that alternate between two distant
-//! places move all starts between them each time.
+//! distances from the text's end, last line first. So a change doesn't alter the distances of the
+//! starts after it (`with_the_end` in `LineTables`). A change takes time for the starts that it
+//! adds or drops, and for the starts between it and the previous change. `move_left` and
+//! `move_right` move these from one part to the other; their clauses say that no start changes. If
+//! changes alternate between two distant places, each change moves all starts between them.
 //!
 //! `put` allocates all memory first: for the new starts, for both parts of the table, then for the
 //! text. After that no allocation can fail, as the contracts of `reserve` and `extend_from_slice`

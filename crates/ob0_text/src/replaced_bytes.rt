@@ -3,10 +3,10 @@
 //! The result for all changes of a notification is one range of bytes that contains them: the text
 //! before and after it is unchanged, byte by byte (`Covers`, `IsChangedAt`). `IsReplaced` of
 //! `ob0_scan` requires this. `replace_at` of a store returns the bytes of one change, and `around`
-//! joins two of these. In the text between the two changes, everything after the later of their
-//! ends is unchanged by both. A change of the whole text replaces all bytes. The contract allows
-//! more bytes than necessary; having few only saves time. If the text wasn't known, the result is
-//! None, since no part of it is known to be unchanged.
+//! joins the bytes of two changes. In the text between the two changes, everything after the later
+//! of their ends is unchanged by both. A change of the whole text replaces all bytes. The contract
+//! allows more bytes than necessary; a smaller range only saves time. If the text wasn't known, the
+//! result is None, since no part of it is known to be unchanged.
 
 ghost use Rattle.std.specs.Prelude.{◌≡◌, ℕ, List, Option, is_some};
 ghost use Rattle.ob0_text.specs.ChangedBytes.{Covers, IsChangedAt};
