@@ -34,8 +34,8 @@ layout_changes unit indent characters m =
     (all_gaps indent source.text (line_roles 0 m.tree) m.text_of.scan.scan.lexemes))
 
 -- Holds if these edits format a text. There is one for each gap that changes, and it replaces the
--- whole gap. Made all at once, they leave the formatted text. Its module is the same, with the same
--- runs.
+-- whole gap. Made all at once, the edits leave the formatted text. The formatted text has the same
+-- module, with the same runs.
 pub record LaysOut (unit : Unit) (indent : Indent) (text : List ℕ)
     (edits : List Edit) : Type 0 where
   pub before : IsWellTypedModule (utf8 text)
@@ -51,14 +51,14 @@ pub record IsTooLongLaidOut (indent : Indent) (text : List ℕ) : Type 0 where
   pub before : IsWellTypedModule (utf8 text)
   pub long : max_text < length (layout_of indent before)
 
--- holds for edits if they format the module; holds for the only possible refusal, `TooLong`, if the
--- formatted text is too long
+-- Holds for edits that format the module. Holds for the refusal `TooLong` if the formatted text is
+-- too long, and for no other refusal.
 abbrev pub Formats : Unit → Indent → List ℕ → Result (Vec Edit Global) EditRefusal → Type 0
 Formats unit indent text (Ok edits) = LaysOut unit indent text edits.items
 Formats unit indent text (Err refusal) = (refusal ≡ TooLong) × IsTooLongLaidOut indent text
 
 -- Holds if this is the result of formatting a text: edits, or the only possible refusal, `TooLong`.
--- None requires that the text isn't a well-typed module.
+-- For None it holds if the text isn't a well-typed module.
 abbrev pub FindsLayout : Unit
     → Indent
     → List ℕ

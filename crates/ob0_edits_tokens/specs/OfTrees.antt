@@ -10,8 +10,8 @@ use Rattle.ob0_edits_tokens.specs.Changed.{words_of, changed_words, at_each, is_
 use Rattle.ob0_edits_tokens.specs.Replaced.{AreNames}
 use Rattle.ob0_edits_tokens.specs.Written.{name_word}
 
--- Returns the tokens of the words as a tree over indexes spells them. The first word has the index
--- `k`.
+-- Returns the words as the tokens that a tree over word indexes spells: each name or integer is the
+-- index of its word. The first word has the index `k`.
 abbrev pub numbered_tokens : ℕ → List Word → List (Terminal ℕ)
 numbered_tokens k [] = []
 numbered_tokens k (w ∷ ws) = lexeme_of k w.kind ∷ numbered_tokens (suc k) ws
@@ -33,8 +33,8 @@ number_at ws k = value_of (word_at ws k).kind
 abbrev pub renamed_at : List Word → List ℕ → List ℕ → ℕ → List ℕ
 renamed_at ws places new k = if is_among k places then new else text_of_word ws k
 
--- A tree still spells the words if both get a new name at the same places. The tree must have the
--- words' indexes as its names and integers.
+-- Holds if every tree that spells the words of a text still spells them after both get a new name
+-- at the same places. The tree has the words' indexes as its names and integers.
 abbrev pub RenamedWordsSpell : Type 0
 RenamedWordsSpell =
     (s : Scanned) (sort : Sort) (t : Tree ℕ sort) (places new : List ℕ)

@@ -12,8 +12,8 @@ use Rattle.ob0_text.specs.Patches.{Cut, pieced}
 use Rattle.ob0_edits_tokens.specs.Changed.{Changes}
 use Rattle.ob0_edits_tokens.specs.Replaced.{token_or_empty, span_at, cut_of}
 
--- returns the changes that remove the words from index `first` to index `last`, and make `changes`
--- to all other words
+-- Returns the changes that remove the words from index `first` to index `last`, and change all
+-- other words as `changes` does.
 abbrev pub without_words : ℕ → ℕ → Changes → Changes
 without_words first last changes k = if nat_le first k && nat_le k last then Some [] else changes k
 

@@ -48,21 +48,22 @@ cut_of tokens new p =
 abbrev pub with_text_at : Scanned → List ℕ → List ℕ → List ℕ
 with_text_at s places new = pieced s.text 0 (map (cut_of s.tokens new) places)
 
--- holds if each cut begins at or after the end of the cut before it, and removes at least one byte;
--- the first one begins at or after `at`
+-- Holds if each cut begins at or after the end of the previous cut, and removes at least one byte.
+-- The first cut begins at or after `at`.
 abbrev pub AreInOrder : ℕ → List Cut → Type 0
 AreInOrder at [] = Unit {0}
 AreInOrder at (c ∷ cs) = (at ≤ c.from) × (c.from < c.to) × AreInOrder c.to cs
 
--- holds if each lexeme ends before the next one, and the last one ends before the byte `byte`
+-- Holds if no lexeme would continue with the first byte of the next lexeme, or the last lexeme with
+-- the byte `byte`.
 abbrev pub AreApartBefore : List Lexeme → ℕ → Type 0
 AreApartBefore [] byte = Unit {0}
 AreApartBefore (l ∷ lexemes) byte =
     EndsBefore l (slice_index (joined lexemes ++ (byte ∷ [])) 0) × AreApartBefore lexemes byte
 
--- Holds if the text `new`, which is read as the words `ws`, may replace any identifier. A lexeme
--- that ends before a letter must end before the text's first byte. The text's own lexemes must end
--- before one another, and the last one before every byte that ends an identifier.
+-- Holds if the text `new`, whose words are `ws`, may replace any identifier. A lexeme before it
+-- that can't continue with a letter can't continue with its first byte either. Its own lexemes stay
+-- separate from one another, and from a byte after it that can't continue an identifier.
 pub record ReplacesName (new : List ℕ) (ws : List Word) : Type 0 where
   pub lexemes : List Lexeme
   pub whole : joined lexemes ≡ new

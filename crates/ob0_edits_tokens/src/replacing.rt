@@ -50,9 +50,9 @@ pub fn edits_for<T: TextStore>(
     Ok(edits)
 }
 
-/// Returns an edit that removes a declaration, from its first token to its last. After it come edits that replace the
-/// tokens at some later places by `new`. Fails with `TooLong` if the resulting text is longer than a text may be, and
-/// with `Memory` if an allocation fails.
+/// Returns an edit that removes a declaration, from the token `first` to the token `last`. After it
+/// come edits that replace the tokens at some later places by `new`. Fails with `TooLong` if the
+/// resulting text is longer than a text may be, and with `Memory` if an allocation fails.
 pub fn edits_without<T: TextStore>(
     alloc: Global,
     store: &T,
@@ -138,8 +138,8 @@ pub fn range_of<T: TextStore>(store: &T, span: Span) -> Range
     }
 }
 
-/// Returns true if an edited text is longer than a text may be. It consists of `counted` bytes, and then of the old
-/// text after `end` with `new` at all places.
+/// Returns true if an edited text is longer than a text may be. The edited text consists of
+/// `counted` bytes, followed by the old text after the offset `end` with `new` at all places.
 fn is_too_long(tokens: &Tokens, counted: usize, end: usize, places: &[usize], new: &str) -> bool
     requires names { AreNames tokens.now.tokens 0 places.now }
     requires order { AreInOrder end (map (cut_of tokens.now.tokens new.now) places.now) }

@@ -52,9 +52,9 @@ impl CountedPiece {
     }
 }
 
-/// Counts a piece of the text that begins at `start`, has at most `units` units and doesn't end a
-/// line. In a long line the piece has nearly `units` units. If the piece `last` begins at `start`
-/// as well, only the difference between the two pieces is counted.
+/// Counts a piece of one line that begins at `start` and has at most `units` units. In a long line
+/// the piece has nearly `units` units. If the piece `last` begins at `start` as well, only the
+/// difference between the two pieces is counted.
 pub fn counted_to(text: &str, unit: Unit, start: usize, last: CountedPiece, units: u64) -> Stretch
     requires start { start ≤ length text.now }
     requires last { IsPieceOfLine (width_of unit) text.now last.start last.counted }
