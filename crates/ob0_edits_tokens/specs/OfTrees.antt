@@ -33,8 +33,9 @@ number_at ws k = value_of (word_at ws k).kind
 abbrev pub renamed_at : List Word → List ℕ → List ℕ → ℕ → List ℕ
 renamed_at ws places new k = if is_among k places then new else text_of_word ws k
 
--- Holds if every tree that spells the words of a text still spells them after both get a new name
--- at the same places. The tree has the words' indexes as its names and integers.
+-- Holds if renaming keeps the spelling of trees: if a tree with word indexes as its names and
+-- integers spells the words of a text, it still does after tree and words get a new name at the
+-- same places.
 abbrev pub RenamedWordsSpell : Type 0
 RenamedWordsSpell =
     (s : Scanned) (sort : Sort) (t : Tree ℕ sort) (places new : List ℕ)

@@ -54,8 +54,8 @@ abbrev pub AreInOrder : ℕ → List Cut → Type 0
 AreInOrder at [] = Unit {0}
 AreInOrder at (c ∷ cs) = (at ≤ c.from) × (c.from < c.to) × AreInOrder c.to cs
 
--- Holds if no lexeme would continue with the first byte of the next lexeme, or the last lexeme with
--- the byte `byte`.
+-- Holds if the text of each lexeme belongs to its kind, and no lexeme can continue with the byte
+-- after it. The byte `byte` follows the last lexeme.
 abbrev pub AreApartBefore : List Lexeme → ℕ → Type 0
 AreApartBefore [] byte = Unit {0}
 AreApartBefore (l ∷ lexemes) byte =

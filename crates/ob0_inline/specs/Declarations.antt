@@ -6,7 +6,7 @@ use Rattle.ob0_scan.specs.declared.lexeme.TokenKind.{TokenKind}
 use Rattle.ob0_scan.specs.declared.lexeme.TokenKind.TheVariants as kind
 use Rattle.ob0_scan.specs.declared.lexeme.Symbol.TheVariants as symbol
 
--- returns true if `span` lies within `part`
+-- Returns true if `span` lies within the span `part`.
 abbrev pub is_inside : Span → Span → Bool
 is_inside part span = nat_le part.start span.start && nat_le span.end part.end
 

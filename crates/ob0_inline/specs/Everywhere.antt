@@ -32,8 +32,8 @@ use Rattle.ob0_inline.specs.Inlined.{LeavesModule, first_refusal}
 use Rattle.ob0_inline.specs.Uses.{is_predeclared_truth}
 use Rattle.ob0_inline.specs.Values.{value_factor, value_text}
 
--- Holds if `c` is a constant of a CONST section, with its ordinal, its value and its declaring
--- token. `last` is the first `;` after that token.
+-- Holds if `c` is a constant of a CONST section: its ordinal, its value, its declaring token, and
+-- the first `;` after that token.
 pub record IsConstant (m : Parsed) (c : NamedConstant) : Type 0 where
   pub has_value : value_of_constant (named_tree_of m) c.ordinal ≡ Some (scalar_value c.value)
   pub begins : token_declaring (declaring_only (identifiers role.Declaring (tree_of m))) c.ordinal
@@ -73,12 +73,13 @@ inlined_all m c = inlined_everywhere (named_tree_of m) c.ordinal (value_factor c
 abbrev pub text_without : Parsed → NamedConstant → List ℕ
 text_without m c = without_text m.source c.first c.last (uses_of m c.ordinal) (value_text c.value)
 
--- returns true if the occurrence `k` is a use of the constant, and TRUE or FALSE in its place
--- wouldn't be the predeclared name
+-- Returns true if the occurrence `k` is a use of the constant, and TRUE or FALSE, written there for
+-- its value, wouldn't be the predeclared name.
 abbrev pub is_hidden : Tree Name module_text → NamedConstant → ℕ → Bool
 is_hidden m c k = same_ordinal (binds m k) c.ordinal && not (is_predeclared_truth m k c.value)
 
--- returns true if at some use of the constant TRUE or FALSE wouldn't be the predeclared name
+-- Returns true if TRUE or FALSE, written for the constant's value at some use, wouldn't be the
+-- predeclared name.
 abbrev pub any_hidden : Tree Name module_text → NamedConstant → Bool
 any_hidden m c = list_any (is_hidden m c) (range_with_len 0 (length (bindings m)))
 
@@ -106,8 +107,8 @@ pub record InlinesEverywhere (unit : counting.Unit) (text : List ℕ) (m : Parse
   pub well_typed : WellTyped (inlined_all m c)
   pub same_runs : SameRuns (inlined_all m c) (named_tree_of m)
 
--- Holds for edits if no refusal applies and they inline the constant everywhere. Holds for the
--- first refusal that applies, and for `Memory`.
+-- Holds for edits that inline the constant everywhere, if no refusal applies. Holds for the first
+-- refusal that applies, and for `Memory`.
 abbrev pub AnswersConstant : counting.Unit
     → List ℕ
     → Parsed
@@ -119,8 +120,8 @@ AnswersConstant unit text m c (Ok edits) =
 AnswersConstant unit text m c (Err refusal) =
     (refusal_everywhere m c ≡ Some refusal) ⊎ (refusal ≡ Memory)
 
--- Holds for the answer about the constant whose name is at the byte offset. If there is no such
--- constant, holds for `NoName`.
+-- Holds for an answer to inlining the constant at the byte offset everywhere. If the offset isn't
+-- on a name of a constant, holds only for the refusal `NoName`.
 abbrev pub AnswersEverywhere : counting.Unit
     → List ℕ
     → Parsed

@@ -24,7 +24,8 @@ pub struct NamedConstant {
     pub last: usize,
 }
 
-/// Returns the constant whose name is at a byte offset, at its declaration or at a use. Returns None if there is none.
+/// Returns the constant whose name is at a byte offset, in its declaration or at a use. Returns
+/// None if no such name is there.
 pub(crate) fn constant_at(module: &WellTyped, offset: usize) -> Option<NamedConstant>
     ensures { MatchOption result (NoConstantAt «module».now.module_read offset)
         (λ c. IsConstantAt «module».now.module_read offset c) }
@@ -39,8 +40,8 @@ pub(crate) fn constant_at(module: &WellTyped, offset: usize) -> Option<NamedCons
     }
 }
 
-/// Returns the constant with this ordinal and value, with the tokens of its declaration. Returns None only if the
-/// declaration isn't found, which the contract excludes.
+/// Returns the constant with this ordinal and value, with the tokens of its declaration. The
+/// contract says that the result isn't None.
 fn named_constant(names: &Resolved, ordinal: usize, value: Scalar) -> Option<NamedConstant>
     requires has_value { value_of_constant (named_tree_of names.now.module_read) ordinal
         ≡ Some (scalar_value value) }

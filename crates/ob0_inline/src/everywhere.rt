@@ -81,8 +81,9 @@ fn inline_constant<T: TextStore>(
     }
 }
 
-/// Returns one edit that removes the constant's declaration, then one for each use, which writes the value in its
-/// place. If the text becomes too long or too deep, the refusal is `TooLong` or `TooDeep`.
+/// Returns one edit that removes the constant's declaration, then one for each use, which writes
+/// the value there. If the resulting text is too long or nested too deep, the refusal is `TooLong`
+/// or `TooDeep`.
 fn edits_everywhere<T: TextStore>(
     alloc: Global,
     store: &T,

@@ -15,8 +15,8 @@ use ob0_scope::ordinals_seen;
 use ob0_scope_table::{FALSE, Resolved, TRUE, same_ordinal};
 use std::alloc::{AllocError, Global};
 
-/// Returns true if TRUE or FALSE, written for a truth value in place of an occurrence, is the predeclared name there.
-/// For a number the result is true.
+/// Returns true if TRUE or FALSE, written for a truth value in place of an occurrence, would be the
+/// predeclared name. For a number the result is true.
 pub(crate) fn is_predeclared_truth(
     alloc: Global,
     names: &Resolved,
@@ -48,7 +48,7 @@ fn is_seen(
     Ok(is_bound(&bound, occurrence, ordinal))
 }
 
-/// Returns true if the entry of an occurrence in the list `bound` is this ordinal.
+/// Returns true if the list `bound` has this ordinal for an occurrence.
 fn is_bound(bound: &[Option<usize>], occurrence: usize, ordinal: usize) -> bool
     ensures { result
         ≡ same_ordinal (option_and_then (λ found. found) (slice_get bound.now occurrence)) ordinal }
@@ -59,8 +59,8 @@ fn is_bound(bound: &[Option<usize>], occurrence: usize, ordinal: usize) -> bool
     }
 }
 
-/// Returns true if TRUE or FALSE, written for the constant in place of some use, isn't the predeclared name there. For
-/// a number the result is false.
+/// Returns true if TRUE or FALSE, written for the constant's value at some use, wouldn't be the
+/// predeclared name. For a number the result is false.
 pub(crate) fn any_hidden(
     alloc: Global,
     names: &Resolved,
@@ -98,7 +98,8 @@ fn is_hidden(
     Ok(any_elsewhere(names, &bound, constant, ordinal))
 }
 
-/// Returns true if some occurrence is a use of the constant, and its entry in the list `bound` isn't this ordinal.
+/// Returns true if some occurrence is a use of the constant for which the list `bound` doesn't have
+/// this ordinal.
 fn any_elsewhere(names: &Resolved, bound: &[Option<usize>], constant: usize, ordinal: usize) -> bool
     ensures { result
         ≡ list_any (λ k. same_ordinal (binds (named_tree_of names.now.module_read) k) constant
@@ -113,7 +114,8 @@ fn any_elsewhere(names: &Resolved, bound: &[Option<usize>], constant: usize, ord
     false
 }
 
-/// Returns true if this occurrence is a use of the constant, and its entry in the list `bound` isn't this ordinal.
+/// Returns true if this occurrence is a use of the constant for which the list `bound` doesn't have
+/// this ordinal.
 fn is_elsewhere(
     names: &Resolved,
     bound: &[Option<usize>],

@@ -10,7 +10,7 @@ use ob0_scope_table::Resolved;
 use ob0_types::WellTyped;
 
 /// A use of a constant: its token, its number among the occurrences of the text (counted from 0),
-/// and the constant's ordinal and value.
+/// and the ordinal and value of the constant.
 #[derive(Clone, Copy)]
 pub struct Use {
     pub token: usize,
@@ -19,7 +19,7 @@ pub struct Use {
     pub value: Scalar,
 }
 
-/// Returns the use of a constant at a byte offset. Returns None if there is none.
+/// Returns the use of a constant at a byte offset, or None if no use is there.
 pub(crate) fn use_at(module: &WellTyped, offset: usize) -> Option<Use>
     ensures at { MatchOption result ((u : Use) → IsUseAt «module».now.module_read offset u → ⊥)
         (λ u. IsUseAt «module».now.module_read offset u) }
@@ -43,8 +43,8 @@ pub(crate) fn use_at(module: &WellTyped, offset: usize) -> Option<Use>
     }
 }
 
-/// Returns the number of the occurrence at a token, or None if there is none. It is found by binary search, because the
-/// tokens of occurrences ascend.
+/// Returns the number of the occurrence at a token, or None if the token isn't an occurrence. The
+/// search is binary, because the tokens of occurrences ascend.
 fn occurrence_at(names: &Resolved, token: usize) -> Option<usize>
     ensures { result ≡ position_from (λ other. other == token) 0 names.now.uses }
 {

@@ -1,4 +1,4 @@
--- The roles of a tree's tokens in their lines.
+-- Defines the role of each token of a tree in its line.
 -- Rule: docs/LANGUAGE.md, Layout 2 to 4.
 use Rattle.std.specs.Prelude.{ℕ, ◌+◌, min, Bool, true, false, Option, Some, None, List, [], ◌∷◌, ◌++◌}
 use Rattle.ob0_tree.specs.declared.tree.Sign.{Sign}
@@ -10,26 +10,27 @@ use Rattle.ob0_layout.specs.declared.line_role.LineRole.TheVariants.{Begins, Ope
 abbrev pub deeper : ℕ → ℕ
 deeper k = min (k + 1) 4294967295
 
--- returns the roles of some tokens with the first role replaced, so that the first token begins a
--- line of this level
+-- Returns the roles of some tokens after the first one is changed: the first token begins a line of
+-- this level.
 abbrev pub in_line : ℕ → List LineRole → List LineRole
 in_line level [] = []
 in_line level (s ∷ ss) = Begins level ∷ ss
 
--- returns the role of an optional sign, after which no space comes
+-- Returns the role of a sign, after which no space comes, as a list. Without a sign the list is
+-- empty.
 abbrev pub sign_role : Option Sign → List LineRole
 sign_role None = []
 sign_role (Some s) = Joining ∷ []
 
--- returns the role of the separator before an item of a list; if the Bool is true, the item is the
--- first one, and there is none
+-- Returns the role of the separator before an item of a list, as a list. If the item is the first
+-- one (true), there is no separator.
 abbrev pub separated : Bool → List LineRole
 separated true = []
 separated false = Plain ∷ []
 
--- Returns the role of each token of a tree, in text order. The level is the block's, or in a
--- sequence the level of its statements. The module has level 0, and a procedure one level more than
--- the block that declares it. The statements of a body have one level more than its block, and
+-- Returns the roles of a tree's tokens, in text order. The level is the block's, or in a sequence
+-- the level of its statements. The module has level 0, and a procedure one level more than the
+-- block that declares it. The statements of a body have one level more than its block, and
 -- statements inside a statement one more than that statement. Constructs within a line have no
 -- level: 0 is passed for them.
 abbrev pub line_roles : {N : Type 0} {s : Sort} → ℕ → Tree N s → List LineRole

@@ -56,7 +56,7 @@ pub fn format<T: TextStore>(
     Ok(edits(alloc, store, &sites, indent)?)
 }
 
-/// Returns true if a text of `len` bytes doesn't exceed the limit after these gaps are formatted.
+/// Returns true if a text of `len` bytes is short enough after these gaps are formatted.
 fn fits(sites: &[GapSite], len: usize, indent: Indent) -> bool
     requires length { len ≤ max_text }
     requires within { All (LiesIn len) sites.now }

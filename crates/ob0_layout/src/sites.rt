@@ -15,7 +15,7 @@ use ob0_scan::{LexemeKind, Span, Token, Tokens};
 use ob0_text::Indent;
 use std::alloc::{AllocError, Global};
 
-/// A gap of a text: its start and end in bytes, and its form after formatting.
+/// A gap of a text: its start and end as byte offsets, and its form after formatting.
 #[derive(Clone, Copy)]
 pub struct GapSite {
     pub start: usize,
@@ -23,7 +23,7 @@ pub struct GapSite {
     pub gap: Gap,
 }
 
-/// A token or comment, and its role in its line.
+/// The kind of a token or comment, and its role in its line.
 #[derive(Clone, Copy)]
 pub struct Solid {
     pub kind: LexemeKind,
@@ -115,7 +115,7 @@ fn is_changed(text: &[u8], site: GapSite, indent: Indent) -> bool
     !site.gap.is_text(&text[site.start..site.end], indent)
 }
 
-/// Returns the first of the remaining tokens and comments. None if none remains.
+/// Returns the first of the remaining tokens and comments, or None if none remains.
 fn next_of(left: &[Token], comments: &[Span]) -> Option<NextLexeme>
     ensures { result ≡ next_of left.now comments.now }
 {
@@ -157,8 +157,8 @@ fn last_gap(before: Option<Solid>) -> Gap
     }
 }
 
-/// Returns the level of the line that the next token is in, or 0 if no token follows. `level` is the level of the
-/// current line.
+/// Returns the level of the next token's line, or 0 if no token follows. `level` is the level of
+/// the current line.
 fn next_line(level: u32, roles: &[LineRole]) -> u32
     ensures { result ≡ next_line level roles.now }
 {
@@ -193,7 +193,8 @@ fn after_first<T>(items: &[T]) -> &[T]
     &items[1..]
 }
 
-/// Returns the role of a comment. If a line break comes before it, it begins a line of this level.
+/// Returns the role of a comment. If a line break comes before the comment, it begins a line of
+/// this level.
 fn comment_role(broken: bool, level: u32) -> LineRole
     ensures { result ≡ comment_role broken level }
 {
@@ -204,7 +205,8 @@ fn comment_role(broken: bool, level: u32) -> LineRole
     }
 }
 
-/// Returns true if a gap has a line break, or is at the start of the text (`before` is None).
+/// Returns true if the token or comment after a gap begins a line: the gap has a line break, or is
+/// at the start of the text (`before` is None).
 fn begins_line(before: Option<Solid>, gap: &[u8]) -> bool
     ensures { result ≡ (is_none before || has_break gap.now) }
 {

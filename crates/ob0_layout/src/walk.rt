@@ -1,4 +1,4 @@
-//! Visits a module and gives each of its tokens its role in its line.
+//! Gives each token of a module its role in its line, by a walk over the module.
 
 ghost use Rattle.std.specs.Prelude.{◌≡◌, ◌++◌, ◌∷◌, [], IfOk};
 ghost use Rattle.ob0_layout.specs.declared.line_role.LineRole.TheVariants.{Begins, Plain};
@@ -37,7 +37,7 @@ fn deeper(level: u32) -> u32
     level.saturating_add(1)
 }
 
-/// Appends the role of a token whose gaps depend only on its kind.
+/// Appends the role `Plain`, of a token whose gaps depend only on its kind.
 fn plain(out: &mut Vec<LineRole>) -> Result<(), AllocError>
     ensures { IfOk result (λ _. out.new.items ≡ out.old.items ++ (Plain ∷ [])) }
 {
@@ -168,7 +168,7 @@ fn separator(out: &mut Vec<LineRole>, first: bool) -> Result<(), AllocError>
     Ok(())
 }
 
-/// Appends the roles of statements of this level, with a `;` between any two of them.
+/// Appends the roles of a sequence of statements of this level, with a `;` between them.
 #[cycle(statements)]
 fn sequence(
     out: &mut Vec<LineRole>,
@@ -187,7 +187,7 @@ fn sequence(
     Ok(())
 }
 
-/// Appends the roles of a statement of this level, whose first token begins a line.
+/// Appends the roles of a statement, whose first token begins a line of this level.
 #[cycle(statements)]
 fn statement(out: &mut Vec<LineRole>, level: u32, s: &Statement) -> Result<(), AllocError>
     ensures { IfOk result
@@ -222,7 +222,7 @@ fn begin(out: &mut Vec<LineRole>, level: u32) -> Result<(), AllocError>
     Ok(())
 }
 
-/// Appends the roles of an assignment of this level.
+/// Appends the roles of an assignment, whose first token begins a line of this level.
 fn assignment(out: &mut Vec<LineRole>, level: u32, a: &Assignment) -> Result<(), AllocError>
     ensures { IfOk result
         (λ _. out.new.items ≡ out.old.items ++ line_roles level (assignment_of a.now)) }
@@ -235,7 +235,7 @@ fn assignment(out: &mut Vec<LineRole>, level: u32, a: &Assignment) -> Result<(),
     expression(out, &a.value)
 }
 
-/// Appends the roles of a call of this level.
+/// Appends the roles of a call, whose first token begins a line of this level.
 fn call(out: &mut Vec<LineRole>, level: u32, c: &Call) -> Result<(), AllocError>
     ensures { IfOk result (λ _. out.new.items ≡ out.old.items ++ line_roles level (call_of c.now)) }
 {
@@ -470,7 +470,7 @@ fn body(
     }
 }
 
-/// Appends the roles of a block of this level.
+/// Appends the roles of a block's tokens. `level` is the level of the block.
 #[cycle(blocks)]
 fn block(out: &mut Vec<LineRole>, level: u32, b: &Block) -> Result<(), AllocError>
     ensures { IfOk result

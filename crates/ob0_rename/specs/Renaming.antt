@@ -23,8 +23,8 @@ use Rattle.ob0_scope.specs.declared.naming.Named as named
 use Rattle.ob0_types_fields.specs.declared.field_name.FieldName.{FieldName}
 use Rattle.ob0_types_fields.specs.Identifiers.{declaring_field, field_at, field_tokens}
 
--- A module's text, in characters, with the unit of its positions. `place` is the place of the old
--- name, and `new` the new name.
+-- A requested renaming: the text, in characters, and the unit of its positions, its module with
+-- bound names, the place of the old name, and the new name.
 pub record Renaming : Type 0 where
   pub unit : counting.Unit
   pub text : List ℕ
@@ -32,7 +32,7 @@ pub record Renaming : Type 0 where
   pub place : Position
   pub new : Name
 
--- returns the renaming to `new` at a place of a text, which is the text of this module
+-- Returns the renaming to `new` at a place of a text, whose module is `names`.
 abbrev pub renaming_of : counting.Unit → List ℕ → Resolution → Position → List ℕ → Renaming
 renaming_of unit text names place new =
     record { unit = unit; text = text; names = names; place = place; new = new }
@@ -47,7 +47,8 @@ named_tree r = read.named_tree_of (module_of r)
 
 -- ---- the declaration or field at a place
 
--- the target of a renaming: nothing, a predeclared name, a declaration or a field
+-- The target of a renaming: a predeclared name, a declaration, a field, or nothing if no name is at
+-- the place.
 pub data Target : Type 0 where
   nothing : Target
   predeclared : Target
@@ -56,7 +57,7 @@ pub data Target : Type 0 where
   -- the field with this name of the record with this ordinal
   field_of : ℕ → Name → Target
 
--- Returns the target of a name with an ordinal. It is predeclared if the ordinal is below
+-- Returns the target for a name with this ordinal. It is a predeclared name if the ordinal is below
 -- `predeclared_count`, otherwise a declaration.
 abbrev pub by_ordinal : ℕ → Target
 by_ordinal ordinal = if nat_lt ordinal predeclared_count then predeclared else declaration ordinal
@@ -71,7 +72,7 @@ abbrev pub meant_by : Scanned → Option named.Named → Option FieldName → Ta
 meant_by source (Some n) f = by_ordinal n.ordinal
 meant_by source None f = by_token source f
 
--- returns the target of the identifier at a byte offset: a name of the module, or otherwise a field
+-- Returns the target at a byte offset: the name there, or otherwise the field there.
 abbrev pub meant_at : Resolution → ℕ → Target
 meant_at names offset =
     meant_by names.module_read.source (name_on names.module_read offset) (field_at names offset)
@@ -121,20 +122,20 @@ text_with r tokens = with_text_at (module_of r).source tokens r.new
 abbrev pub token_range : Renaming → ℕ → Range
 token_range r token = range_of (width_of r.unit) r.text (span_at (module_of r).source token)
 
--- returns the range of the identifier that declares another object with the new name in the block
--- of `d`; None if there is none
+-- Returns the range of the identifier that declares another object with the new name in the block
+-- of `d`, or None if no other object has it.
 abbrev pub other_range : Renaming → ℕ → Option Range
 other_range r d =
     option_map (token_range r)
     (option_and_then (declaring_token (module_of r)) (namesake (named_tree r) d r.new))
 
--- returns the range of the identifier that declares a field of the record k with the new name; None
--- if there is none
+-- Returns the range of the identifier that declares a field of the record `k` with the new name, or
+-- None if no field has it.
 abbrev pub other_field_range : Renaming → ℕ → Option Range
 other_field_range r k = option_map (token_range r) (declaring_field (module_of r) k r.new)
 
--- returns the range of the occurrence with this number, counted from 0 in text order; None if there
--- is none
+-- Returns the range of the occurrence with this number, counted from 0 in text order, or None if
+-- the text has fewer occurrences.
 abbrev pub occurrence_range : Renaming → ℕ → Option Range
 occurrence_range r k =
     option_map (token_range r) (slice_get (occurrences (read.tree_of (module_of r))) k)

@@ -19,8 +19,8 @@ use ob0_text::{Range, TextStore};
 use ob0_types::{Identified, WellTyped, meant_at};
 use std::alloc::{AllocError, Global};
 
-/// Returns the identifier at a byte offset, and its meaning. A field's name is spelled as an identifier. Returns None
-/// if there is none.
+/// Returns the identifier at a byte offset with its meaning, or None if no name or field is there.
+/// The contract adds that a field's name is an identifier by the scanner's rules.
 pub(crate) fn identified(well_typed: &WellTyped<'_>, offset: usize) -> Option<Identified>
     ensures found { result ≡ meant_at well_typed.now offset }
     ensures spelled { IfSome result (λ x. IsField x.means

@@ -68,7 +68,8 @@ pub fn rename<T: TextStore>(
     }
 }
 
-/// Returns the edits that rename the declaration with this ordinal to `new`, in text order.
+/// Returns the edits that rename the declaration with this ordinal to `new`, in text order, or the
+/// refusal.
 fn rename_declaration<T: TextStore>(
     alloc: Global,
     store: &T,
