@@ -1,4 +1,4 @@
--- The edits that inline a constant, at one use or everywhere, and the text that they leave.
+-- Defines the edits that inline a constant, at one use or everywhere, and the text that they leave.
 -- Rule: docs/PROTOCOL.md, Requests on documents 7, 9, 10.
 use Rattle.std.specs.Prelude.{◌≡◌, ℕ, List, Option, Some, None, Result, Ok, Err, Vec}
 use Rattle.std.specs.declared.alloc.Global.{Global}

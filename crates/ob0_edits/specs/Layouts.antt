@@ -1,4 +1,4 @@
--- The edits that format a text, and the text that they leave.
+-- Defines the edits that format a text, and the text that they leave.
 -- Rule: docs/PROTOCOL.md, Requests on documents 8, 10.
 use Rattle.std.specs.Prelude.{◌≡◌, ◌<◌, ℕ, List, Option, Some, None, Result, Ok, Err, Vec, map, length}
 use Rattle.std.specs.declared.alloc.Global.{Global}
@@ -21,7 +21,8 @@ use Rattle.ob0_analysis.specs.RunsKept.{RunsAsBefore}
 abbrev pub layout_of : {text : List ℕ} → Indent → IsWellTypedModule text → List ℕ
 layout_of indent m = layout indent m.tree m.text_of.scan.scan.lexemes
 
--- returns the range and new text of each gap that changes, with positions in this unit
+-- Returns the edit for each gap that changes: the range of the gap, with positions in this unit,
+-- and its new text.
 abbrev pub layout_changes : {text : List ℕ}
     → Unit
     → Indent

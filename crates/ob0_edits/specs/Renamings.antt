@@ -1,4 +1,4 @@
--- The renaming in a text: the edits, or the refusal.
+-- Defines the result of a renaming in a text: the edits, or the refusal.
 -- Rule: docs/PROTOCOL.md, Requests on documents 2, 6.
 use Rattle.std.specs.Prelude.{◌≡◌, ℕ, List, Option, Some, None, Result, Ok, Err, Vec}
 use Rattle.std.specs.declared.alloc.Global.{Global}

@@ -1,5 +1,5 @@
--- A text without the declaration of a constant, and with another text in place of some identifiers
--- after it.
+-- Defines the text after the declaration of a constant is removed and some later identifiers are
+-- replaced.
 -- Rule: docs/PROTOCOL.md, Requests on documents 9.
 use Rattle.std.specs.Prelude.{◌≡◌, ℕ, suc, ◌<◌, ◌⊎◌, nat_le, ◌&&◌, if◌then◌else◌, List, [], ◌∷◌, length, map, Some}
 use Rattle.ob0_scan.specs.declared.lexeme.Reserved.TheVariants as reserved
@@ -39,8 +39,8 @@ abbrev pub removal : List Token → ℕ → ℕ → Cut
 removal tokens first last =
     record { from = (span_at tokens first).start; to = (span_at tokens last).end; new = [] }
 
--- returns the text without its part from the token `first` to the token `last`, and with `new` in
--- place of each token of `places`
+-- Returns the text after the part from the token `first` to the token `last` is removed, and the
+-- token at each of the places is replaced by `new`.
 abbrev pub without_text : Scanned → ℕ → ℕ → List ℕ → List ℕ → List ℕ
 without_text s first last places new =
     pieced s.text 0 (removal s.tokens first last ∷ map (cut_of s.tokens new) places)

@@ -1,4 +1,4 @@
--- A text in which some identifiers are replaced by another text, and the edits that do this.
+-- Defines the text after some identifiers are replaced by another text, and the edits that do this.
 -- Rule: docs/PROTOCOL.md, Requests on documents 10.
 use Rattle.std.specs.Prelude.{◌≡◌, ℕ, suc, ◌<◌, ◌≤◌, false, List, [], ◌∷◌, ◌++◌, length, map, IsTrue, Some, slice_index, slice_index_or, string_bytes}
 use Rattle.std.specs.Char.{is_ascii_alphabetic, is_ascii_alphanumeric}
@@ -44,7 +44,7 @@ abbrev pub cut_of : List Token → List ℕ → ℕ → Cut
 cut_of tokens new p =
     record { from = (span_at tokens p).start; to = (span_at tokens p).end; new = new }
 
--- returns the text with `new` in place of the token at each place
+-- Returns the text after the token at each of the places is replaced by `new`.
 abbrev pub with_text_at : Scanned → List ℕ → List ℕ → List ℕ
 with_text_at s places new = pieced s.text 0 (map (cut_of s.tokens new) places)
 
@@ -75,11 +75,11 @@ pub record ReplacesName (new : List ℕ) (ws : List Word) : Type 0 where
       → continues kind (slice_index new 0) ≡ false
   pub apart : (byte : ℕ) → is_ascii_alphanumeric byte ≡ false → AreApartBefore lexemes byte
 
--- returns an edit as its range and the bytes of its text
+-- Returns the range of an edit, and its text in bytes.
 abbrev pub parts : Edit → Range × List ℕ
 parts edit = (edit.range, string_bytes edit.text)
 
--- returns the edit at a place, as the token's range and the new text
+-- Returns the range and text of the edit that replaces the token at a place by `new`.
 abbrev pub edit_at : counting.Unit → List ℕ → List Token → List ℕ → ℕ → Range × List ℕ
 edit_at unit text tokens new p = (range_of (width_of unit) text (span_at tokens p), new)
 

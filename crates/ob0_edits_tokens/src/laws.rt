@@ -11,7 +11,8 @@ pub fn names_replace_names()
     ensures { (new : List ℕ) → IsIdentifier new → ReplacesName new (name_word new ∷ []) }
 {}
 
-/// Proves that a tree still spells the words if both get a new name at the same places.
+/// Proves that renaming keeps the spelling of trees: a tree that spells some words still does after
+/// both get a new name at the same places.
 pub fn renamed_words_spell()
     ensures { RenamedWordsSpell }
 {}

@@ -1,4 +1,4 @@
--- Tests for the declaration that is removed: for its last token, and for spans inside it.
+-- Defines tests for the declaration that is removed: for its last token, and for spans inside it.
 -- Rule: docs/PROTOCOL.md, Requests on documents 9.
 use Rattle.std.specs.Prelude.{Bool, true, false, nat_le, ◌&&◌}
 use Rattle.ob0_scan.specs.declared.lexeme.Span.{Span}

@@ -1,4 +1,5 @@
--- The constant at a place, the module after the constant is inlined everywhere, and the refusals.
+-- Defines the constant at a place, the module after the constant is inlined everywhere, and the
+-- refusals.
 -- Rule: docs/PROTOCOL.md, Requests on documents 9, Refusals of edits.
 use Rattle.std.specs.Prelude.{◌≡◌, ◌≢◌, ◌⊎◌, ℕ, Bool, not, ◌&&◌, if◌then◌else◌, List, [], ◌∷◌, Option, Some, None, Result, Ok, Err, Vec, drop, length, map}
 use Rattle.std.specs.List.{All, filter, list_any, position_from, range_with_len, zip}
@@ -41,7 +42,7 @@ pub record IsConstant (m : Parsed) (c : NamedConstant) : Type 0 where
   pub ends : position_from (λ t. is_semicolon t.kind) c.first (drop c.first m.source.tokens)
       ≡ Some c.last
 
--- holds if the byte offset is on a name of this constant: its declaring name, or a use
+-- Holds if the byte offset is on a name of this constant: in its declaration, or at a use.
 pub record IsConstantAt (m : Parsed) (offset : ℕ) (c : NamedConstant) : Type 0 where
   pub token : ℕ
   pub named : name_on m offset ≡ Some (record { token = token; ordinal = c.ordinal })

@@ -1,4 +1,4 @@
--- Edits that leave the text of a module, and the cases in which they are refused.
+-- Defines edits that leave the text of a module, and the cases in which they are refused.
 -- Rule: docs/PROTOCOL.md, Requests on documents 9, 10, Refusals of edits.
 use Rattle.std.specs.Prelude.{◌≡◌, ℕ, nat_lt, if◌then◌else◌, length, List, Option, Some}
 use Rattle.std.specs.Str.{chars}

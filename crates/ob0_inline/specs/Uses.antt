@@ -1,4 +1,4 @@
--- The use of a constant at a place, the module after the constant is inlined there, and the
+-- Defines the use of a constant at a place, the module after the constant is inlined there, and the
 -- refusals.
 -- Rule: docs/PROTOCOL.md, Requests on documents 9, Refusals of edits.
 use Rattle.std.specs.Prelude.{◌≡◌, ◌⊎◌, ℕ, Bool, true, false, if◌then◌else◌, List, [], ◌∷◌, Option, Some, None, Result, Ok, Err, Vec, map, slice_get}

@@ -16,7 +16,7 @@ use Rattle.ob0_layout.specs.declared.sites.Solid.{Solid}
 use Rattle.ob0_layout.specs.Gaps.{is_changed}
 use Rattle.ob0_layout.specs.Layout.{gap_between, gap_text}
 
--- returns the first of the remaining tokens and comments; None if none remains
+-- Returns the first of the remaining tokens and comments, or None if none remains.
 abbrev pub next_of : List Token → List Span → Option NextLexeme
 next_of [] [] = None
 next_of [] (c ∷ cs) = Some (next.Comment c)
@@ -30,8 +30,8 @@ abbrev pub gap_before : Option Solid → LexemeKind → LineRole → Gap
 gap_before None kind role = Nothing
 gap_before (Some b) kind role = gap_between b.kind b.role kind role
 
--- returns the gap after the last token or comment: a line feed, or nothing if the text has neither
--- (None)
+-- Returns the gap after the last token or comment: a line feed, or nothing if the text has no token
+-- or comment (None).
 abbrev pub last_gap : Option Solid → Gap
 last_gap None = Nothing
 last_gap (Some b) = Line 0

@@ -56,7 +56,7 @@ edit_of width content c = record {
   text = c.new;
 }
 
--- returns an edit of the code as its range and the bytes of its text
+-- Returns the content of an edit of the code.
 abbrev pub edit_text : Edit → EditText
 edit_text e = record { range = e.range; text = string_bytes e.text }
 

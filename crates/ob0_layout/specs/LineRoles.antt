@@ -6,7 +6,7 @@ use Rattle.ob0_tree.specs.Tree.{Sort, Tree, none, one, end, more, compares, rela
 use Rattle.ob0_layout.specs.declared.line_role.LineRole.{LineRole}
 use Rattle.ob0_layout.specs.declared.line_role.LineRole.TheVariants.{Begins, Opening, Joining, Plain}
 
--- Returns the next level, which is at most 2^32 - 1. A module's levels are far below that.
+-- Returns the level that is one deeper, but at most 2^32 - 1. A module's levels are far below that.
 abbrev pub deeper : ℕ → ℕ
 deeper k = min (k + 1) 4294967295
 

@@ -21,9 +21,9 @@ use ob0_tree::Module;
 use std::alloc::{AllocError, Global};
 
 /// Returns one edit for each gap that formatting changes, in text order. Each edit replaces a whole
-/// gap. `store` must hold the text of the module. Applied together to that text, the edits give the
-/// formatted text. Fails with `TooLong` if the formatted text would exceed the limit of a text, and
-/// with `Memory` if an allocation fails.
+/// gap. If `store` holds the text of the module, applying all the edits to it gives the formatted
+/// text. Fails with `TooLong` if the formatted text would be longer than a text may be, and with
+/// `Memory` if an allocation fails.
 pub fn format<T: TextStore>(
     alloc: Global,
     store: &T,

@@ -60,8 +60,8 @@ pub fn gaps_make_the_layout()
         ≡ length (layout indent tree scan.lexemes) }
 {}
 
-/// Proves that formatting changes only white space: the gaps of a text and their new texts contain
-/// nothing else.
+/// Proves that formatting changes only white space: each gap contains nothing else, before and
+/// after formatting.
 pub fn gaps_are_white_space()
     ensures before { (indent : Indent) (s : Scanned) (scan : IsScan s)
         (tree : Tree (List ℕ) module_text)

@@ -135,8 +135,8 @@ fn next_of(left: &[Token], comments: &[Span]) -> Option<NextLexeme>
     }
 }
 
-/// Returns the gap between `before` and a token or comment of this kind and role. It is empty if `before` is None, at
-/// the start of the text.
+/// Returns the gap between `before` and the next token or comment, which has this kind and role. At
+/// the start of the text (`before` is None) the gap is empty.
 fn gap_before(before: Option<Solid>, kind: LexemeKind, role: LineRole) -> Gap
     ensures { result ≡ gap_before before kind role }
 {
@@ -146,8 +146,8 @@ fn gap_before(before: Option<Solid>, kind: LexemeKind, role: LineRole) -> Gap
     }
 }
 
-/// Returns the gap after `before`, the last token or comment: a line feed, or nothing if `before` is None because the
-/// text has neither.
+/// Returns the gap after `before`, the last token or comment: a line feed. If the text has no token
+/// or comment, `before` is None and the gap is empty.
 fn last_gap(before: Option<Solid>) -> Gap
     ensures { result ≡ last_gap before }
 {

@@ -30,7 +30,7 @@ pub(crate) fn line_roles(alloc: Global, module: &Module) -> Result<Vec<LineRole>
     Ok(out)
 }
 
-/// Returns the next level.
+/// Returns the level that is one deeper.
 fn deeper(level: u32) -> u32
     ensures { result ≡ deeper level }
 {

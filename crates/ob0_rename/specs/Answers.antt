@@ -1,4 +1,4 @@
--- The answer to the renaming of a declaration or a field: edits, or a refusal.
+-- Defines the answer to the renaming of a declaration or a field: edits, or a refusal.
 -- Rule: docs/PROTOCOL.md, Requests on documents 6, Refusals of edits.
 use Rattle.std.specs.Prelude.{◌≡◌, ◌⊎◌, ℕ, ◌<◌, ◌≤◌, List, Some, Result, Ok, Err, IfErr, Vec, length, map, true}
 use Rattle.std.specs.Str.{chars}

@@ -1,5 +1,5 @@
--- The renaming of the declaration or the record field at a place of a text: the places of the new
--- name, and its conflicts.
+-- Defines the renaming of the declaration or record field at a place of a text: the places of the
+-- new name, and its conflicts.
 -- Rule: docs/PROTOCOL.md, Requests on documents 6, Refusals of edits.
 use Rattle.std.specs.Prelude.{◌≡◌, ℕ, Bool, true, false, nat_lt, if◌then◌else◌, List, [], Option, Some, None, option_and_then, option_map, slice_get}
 use Rattle.ob0_scan.specs.Scanned.{Scanned}
@@ -62,12 +62,12 @@ pub data Target : Type 0 where
 abbrev pub by_ordinal : ℕ → Target
 by_ordinal ordinal = if nat_lt ordinal predeclared_count then predeclared else declaration ordinal
 
--- returns the target for an identifier of a field, or `nothing` for None
+-- Returns the field that this identifier declares or selects, as a target, or `nothing` for None.
 abbrev pub by_token : Scanned → Option FieldName → Target
 by_token source None = nothing
 by_token source (Some x) = field_of x.owner (text_at source x.token)
 
--- returns the target for the name at a place, or for the field there if there is no name
+-- Returns the target for the name at a place, or for the field there if no name is there.
 abbrev pub meant_by : Scanned → Option named.Named → Option FieldName → Target
 meant_by source (Some n) f = by_ordinal n.ordinal
 meant_by source None f = by_token source f

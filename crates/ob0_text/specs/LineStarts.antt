@@ -57,7 +57,7 @@ pub record TextInUnit : Type 0 where
   pub text : List ℕ
   pub unit : Unit
 
--- The encoding (`Coded`) of a text with its unit.
+-- The encoding (`Coded`) of a text with its unit, which the model of the store `Lines` requires.
 abbrev pub text_code : Coded TextInUnit
 text_code =
     code_by (List ℕ × Unit) (coded× (coded_list coded_ℕ) unit_code) (λ t. (t.text, t.unit))
@@ -75,7 +75,7 @@ pub record Table : Type 0 where
   pub starts : List ℕ
   pub len : ℕ
 
--- Holds if the table is the table of the text.
+-- Holds if the table has the line starts of the text and its length in bytes.
 pub record HasLines (text : List ℕ) (t : Table) : Type 0 where
   pub starts : t.starts ≡ line_starts (chars text)
   pub len : t.len ≡ length text

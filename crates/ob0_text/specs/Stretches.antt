@@ -1,4 +1,5 @@
--- Defines consecutive characters of a line that are counted together.
+-- Defines pieces of a line: consecutive characters, none of which is LF or CR, that are counted
+-- together.
 -- Rule: none; for private contracts of passes over a text.
 use Rattle.std.specs.Prelude.{◌≡◌, ℕ, ◌+◌, ◌-◌, ◌<◌, ◌≤◌, false, ◌||◌, ◌==◌, if◌then◌else◌, nat_lt, nat_le, List, length, take, drop, sum_by}
 use Rattle.std.specs.List.{All}
