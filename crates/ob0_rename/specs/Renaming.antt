@@ -91,7 +91,7 @@ MeansField r k f = meant r ≡ field_of k f
 
 -- ---- the places of the new name
 
--- returns the token that declares the object with this ordinal; None for a predeclared name
+-- Returns the token that declares the object with this ordinal, or None for a predeclared name.
 abbrev pub declaring_token : read.Parsed → ℕ → Option ℕ
 declaring_token m ordinal =
     token_declaring (declaring_only (identifiers role.Declaring (read.tree_of m))) ordinal

@@ -62,7 +62,7 @@ fn is_declared_as(names: &Resolved, declaration: usize, name: &str) -> bool
     }
 }
 
-/// Returns the range of a token. If there is no token, it is an empty range at the text's start.
+/// Returns the range of a token. Without a token (None) it is an empty range at the text's start.
 pub(crate) fn token_range<T: TextStore>(store: &T, tokens: &Tokens, token: Option<usize>) -> Range
     ensures { (index : ℕ)
         → token ≡ Some index

@@ -62,7 +62,7 @@ impl LineTable {
         self.front.len() + self.back.len()
     }
 
-    /// Returns the byte offset at which a line starts. The line is counted from 0.
+    /// Returns the byte offset at which a line starts. Lines are counted from 0.
     pub fn at(&self, line: usize) -> usize
         requires { line < length self.now.starts }
         ensures { result ≡ slice_index self.now.starts line }
@@ -159,8 +159,8 @@ impl LineTable {
     }
 }
 
-/// Moves starts from the front to the back until at most `count` are left in the front. If an
-/// allocation fails, the starts are the same.
+/// Moves starts from the front part to the back part until at most `count` are left in the front.
+/// The starts of the table don't change, even if an allocation fails.
 fn move_left(
     front: &mut Vec<usize>,
     back: &mut Vec<usize>,
@@ -183,8 +183,8 @@ fn move_left(
     Ok(())
 }
 
-/// Moves starts from the back to the front until the front has `count` of them. If an allocation
-/// fails, the starts are the same.
+/// Moves starts from the back part to the front part until the front has `count` of them. The
+/// starts of the table don't change, even if an allocation fails.
 fn move_right(
     front: &mut Vec<usize>,
     back: &mut Vec<usize>,

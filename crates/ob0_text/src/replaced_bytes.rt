@@ -21,8 +21,8 @@ pub struct ReplacedBytes {
 }
 
 impl ReplacedBytes {
-    /// Returns one change that contains this change and the next one, which was made to the result
-    /// of this change.
+    /// Returns one change that contains both this change and the next one. The next change was made
+    /// to the result of this one.
     pub(crate) fn around(self, next: ReplacedBytes) -> ReplacedBytes
         ensures { (first middle last : List ℕ)
             → IsChangedAt first middle self

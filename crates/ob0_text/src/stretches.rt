@@ -92,8 +92,8 @@ fn utf16_units(bytes: &[u8]) -> u64
     units as u64
 }
 
-/// Returns 1 for the first byte of a character, 2 if that character has four bytes, and 0 for any
-/// other byte.
+/// Returns the number of UTF-16 units that are counted at a byte: 1 at the first byte of a
+/// character, 2 if that character has four bytes, and 0 at any other byte.
 fn utf16_units_at(byte: u8) -> u8
     ensures { result ≡ utf16_units_at byte }
 {
