@@ -1,4 +1,4 @@
-//! Tests whether TRUE and FALSE are the predeclared names at a place.
+//! Tests whether TRUE and FALSE, written at a place, would be the predeclared names.
 
 ghost use Rattle.std.specs.Prelude.{◌≡◌, IfOk, ◌==◌, ◌&&◌, not, length, option_and_then, slice_get};
 ghost use Rattle.std.specs.List.{list_any, range_with_len};

@@ -28,8 +28,8 @@ starts_from at (l ∷ ls) = at ∷ starts_from (at + byte_len (with_ending l)) l
 abbrev pub line_starts : List ℕ → List ℕ
 line_starts text = starts_from 0 (lines text)
 
--- Returns the offsets at which a line starts right after one of these bytes. `at` is the offset
--- after the first byte, and the bytes `next` follow the last one.
+-- Returns the offsets, each right after one of these bytes, at which a line starts. `at` is the
+-- offset after the first byte, and the bytes `next` follow the last one.
 unfoldable pub starts_after : ℕ → List ℕ → List ℕ → List ℕ
 starts_after at [] next = []
 starts_after at (b ∷ bs) next =

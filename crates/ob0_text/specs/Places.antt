@@ -67,7 +67,8 @@ pub record IsSought (width : ℕ → ℕ) (text : List ℕ) (sought : Position) 
       → offset + byte_len (before width (chars rest) (left_of line character p))
       ≡ byte_len (before width (chars text) p)
 
--- Holds if the position `sought`, and each later one, can be found from this place.
+-- Holds if the offsets of the position `sought`, and of each later position, can be found from this
+-- place.
 abbrev pub IsPlaceBefore : (ℕ → ℕ) → List ℕ → Position → PassState → Type 0
 IsPlaceBefore width text sought p =
     IsSought width text sought (drop p.offset text) p.offset p.line p.character
