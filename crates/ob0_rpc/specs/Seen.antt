@@ -31,8 +31,8 @@ abbrev pub id_or_null : Option Id → Data
 id_or_null (Some id) = id_data id
 id_or_null None = null
 
--- Returns a message that the code has read as a message of the definitions: a request, a
--- notification or a response.
+-- Returns the meaning of the code's message: a request, a notification or a response. Its id,
+-- method and params become values of the definitions.
 abbrev pub seen : Incoming → MessageMeaning
 seen (Request id method params) = request (id_data id) (string_bytes method) (view params)
 seen (Notice method params) = notice (string_bytes method) (view params)
@@ -63,7 +63,7 @@ at_seen place = record { uri = string_bytes place.uri; position = place.position
 abbrev pub kinds_seen : Option (Vec (String Global) Global) → Option (List (List ℕ))
 kinds_seen kinds = option_map (λ texts. map string_bytes texts.items) kinds
 
--- Returns a request of the code as a request of the definitions.
+-- Returns the code's request as a request of the definitions.
 abbrev pub seen_call : called.ClientRequest → ClientRequest
 seen_call (called.TheVariants.Initialize client) = initialize client
 seen_call called.TheVariants.Shutdown = shutdown
@@ -86,7 +86,7 @@ Requests requested (Err Memory) = Unit {0}
 Requests requested (Err NotJson) = ⊥
 Requests requested (Err NotAMessage) = ⊥
 
--- Returns a notification of the code as a notification of the definitions.
+-- Returns the code's notification as a notification of the definitions.
 abbrev pub seen_note : noted.ClientNotification → Notification
 seen_note noted.TheVariants.Exit = exits
 seen_note (noted.TheVariants.Open uri version text) =
