@@ -12,21 +12,21 @@ pub use Rattle.ob0_rpc.specs.Shapes.{edit_value}
 use Rattle.ob0_rpc.specs.Shapes.{text, whole_number, range_value, error_message, notification_message}
 use Rattle.ob0_rpc.specs.declared.clients.Client.{Client}
 
--- The synchronization of documents, {"change":2,"openClose":true}.
+-- The value of `textDocumentSync`, {"change":2,"openClose":true}: changes are sent by ranges.
 abbrev pub synchronisation : Data
 synchronisation =
     object (member (codes "change") (number (unsigned 2))
     (member (codes "openClose") (boolean true) no_members))
 
--- Returns {"prepareProvider":true} for a client that sends `prepareRename` before it requests a
--- rename, otherwise true.
+-- Returns the value of `renameProvider`: {"prepareProvider":true} for a client that sends
+-- `prepareRename` before it requests a rename, otherwise true.
 abbrev pub rename_provider : Bool → Data
 rename_provider prepares =
     if prepares
     then object (member (codes "prepareProvider") (boolean true) no_members)
     else boolean true
 
--- The kinds of code actions, {"codeActionKinds":["refactor.inline"]}.
+-- The value of `codeActionProvider`, {"codeActionKinds":["refactor.inline"]}.
 abbrev pub action_provider : Data
 action_provider =
     object (member (codes "codeActionKinds")
@@ -128,7 +128,7 @@ action_value edit title =
     object (member (codes "edit") edit (member (codes "kind") (text (codes "refactor.inline"))
     (member (codes "title") (text title) no_members)))
 
--- Returns the error that refuses a request for edits, with this message.
+-- Returns the message that refuses a request for edits. `said` is the text of its error.
 abbrev pub edit_refused : Data → List ℕ → Data
 edit_refused id said = error_message id (minus 32803) said
 
