@@ -63,8 +63,8 @@ pub record Gives (words : List Text) (line : CommandLine) : Type 0 where
   pub read : IsReadFrom (subcommand_of ob0_app words) line
 
 -- Holds if the words may be refused with this fault. A clap error has a kind that clap's definition
--- allows for the words' first fault, and never the kind `OutOfMemory`. For `help` and for an unknown
--- subcommand two kinds are allowed. `Memory` is allowed for any words.
+-- allows for the words' first fault, and never the kind `OutOfMemory`. For `help` and for an
+-- unknown subcommand two kinds are allowed. `Memory` is allowed for any words.
 abbrev pub RefusesWords : List Text → CommandFault → Type 0
 RefusesWords words (Refused error) =
     IsAmong (kind_of error) (fault_of ob0_app words) × ¬ (kind_of error ≡ OutOfMemory)

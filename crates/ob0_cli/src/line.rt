@@ -8,10 +8,10 @@
 //!
 //! Only the `App` of `serve` and `serve_definition` mention the options of `serve`.
 //!
-//! Traps: if a function takes a `&str`, no `ghost` clause can depend on it. So the bound of a number
-//! is a function of its name (`most_of`). A local named `run` is `run'` in the answers of proofs. A
-//! `where` block needs every `_` written out. Help texts are constants of at most 80 columns, one
-//! for each command: a test counts the columns.
+//! Traps: if a function takes a `&str`, no `ghost` clause can depend on it. So the bound of a
+//! number is a function of its name (`most_of`). A local named `run` is `run'` in the answers of
+//! proofs. A `where` block needs every `_` written out. Help texts are constants of at most 80
+//! columns, one for each command: a test counts the columns.
 
 ghost use Rattle.std.specs.Prelude.{◌≡◌, ◌≢◌, ◌≤◌, Some, false, true, IfOk, IfErr, MatchOption, map};
 ghost use Rattle.clap.specs.Words.{App, Rule, app_of, first_of, found_of, new_app, rows_of, rule_of, subcommand_rows_of, with_rule, with_subcommand};
