@@ -13,11 +13,11 @@ word_rule id = record (new_rule id) { action = Some Set; value_names = 1; requir
 abbrev pub number_rule : Text → Rule
 number_rule id = record (word_rule id) { parser = Some (Unsigned 0 18446744073709551615) }
 
--- The greatest number of calls that may be open at a time in a run.
+-- The greatest number that `--calls` accepts: calls that may be open at a time in a run.
 abbrev pub max_calls : ℕ
 max_calls = 64
 
--- The greatest number of iterations of a loop in a run.
+-- The greatest number that `--turns` accepts: iterations of a loop in a run.
 abbrev pub max_turns : ℕ
 max_turns = 100000
 

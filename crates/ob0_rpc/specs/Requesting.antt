@@ -46,7 +46,7 @@ within (name ∷ names) d = option_and_then (within names) (get name d)
 abbrev pub is_true : Option Data → Bool
 is_true found = unwrap_or (option_and_then as_bool found) false
 
--- Returns true if the member is this text.
+-- Returns true if the optional text is this text, and false for None.
 abbrev pub is_text : List ℕ → Option (List ℕ) → Bool
 is_text text None = false
 is_text text (Some other) = bytes_eq other text

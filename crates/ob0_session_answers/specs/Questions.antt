@@ -59,7 +59,7 @@ AnswersReferences unit text at include names value =
     × AreReferencesAt names (offset_in unit text at) include spans
     × (value ≡ array (items_of (map (location_at unit at.uri text) spans)))
 
--- Holds if the value answers the question about a well-typed module whose names are bound so.
+-- Holds if the value answers the question about a well-typed module. `names` binds its names.
 abbrev pub AnswersIn : Unit → List ℕ → At → NameQuestion → Resolution → Data → Type 0
 AnswersIn unit text at hover_asked names value =
     value
@@ -76,7 +76,8 @@ AnswersIn unit text at renaming_asked names value =
     ≡ value_or_null
     (option_map (range_at unit text) (renamable_at names (offset_in unit text at)))
 
--- Returns the answer for a text that isn't a well-typed module: null, or for references no items.
+-- Returns the answer for a text that isn't a well-typed module: null, or an empty list for
+-- references.
 abbrev pub no_answer : NameQuestion → Data
 no_answer hover_asked = null
 no_answer definition_asked = null

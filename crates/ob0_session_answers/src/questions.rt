@@ -251,7 +251,7 @@ fn location_or_null<T: TextStore>(
     }
 }
 
-/// Returns the answer to a request prepareRename: the range of the span, or null for None.
+/// Returns the answer to a `prepareRename` request: the range of the span, or null for None.
 fn range_or_null<T: TextStore>(
     alloc: Global,
     id: &Id,

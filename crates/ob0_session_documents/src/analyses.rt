@@ -20,7 +20,7 @@ const MAX_BYTES: usize = 4_198_400;
 /// bounds the number of kept analyses of empty texts.
 const BYTES_PER_ANALYSIS: usize = 1_024;
 
-/// The kept analyses, by the uris of their documents. Each call may drop analyses.
+/// The kept analyses, by the uris of their documents. Adding an analysis may drop others.
 #[derive(Drop)]
 pub struct Analyses {
     alloc: Global,
@@ -48,7 +48,7 @@ impl Analyses {
         ensures others { KeepsOthers self.old uri.now self.new }
     {
         let by_uri = self.by_uri.as_mut()?;
-        // Only the proof needs this call: its contract.
+        // This call is here because the proof needs its contract.
         let _count = by_uri.len();
         let analysis = by_uri.pop(uri)?;
         self.bytes = self.bytes.saturating_sub(bytes_of(uri, &analysis));

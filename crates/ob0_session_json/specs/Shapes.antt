@@ -12,7 +12,7 @@ pub use Rattle.ob0_rpc.specs.Shapes.{edit_value}
 use Rattle.ob0_rpc.specs.Shapes.{text, whole_number, range_value, error_message, notification_message}
 use Rattle.ob0_rpc.specs.declared.clients.Client.{Client}
 
--- The value of `textDocumentSync`, {"change":2,"openClose":true}: changes are sent by ranges.
+-- The value of `textDocumentSync`, {"change":2,"openClose":true}. 2 stands for changes of ranges.
 abbrev pub synchronisation : Data
 synchronisation =
     object (member (codes "change") (number (unsigned 2))
@@ -84,22 +84,23 @@ location_value uri range =
 abbrev pub location_in : List ℕ → Range → Data
 location_in uri range = location_value uri (range_value range.start range.end)
 
--- Returns a text to display, {"kind":"plaintext","value":h}.
+-- Returns the JSON value of a text that is displayed unchanged, {"kind":"plaintext","value":h}.
 abbrev pub plain_text : List ℕ → Data
 plain_text said =
     object (member (codes "kind") (text (codes "plaintext"))
     (member (codes "value") (text said) no_members))
 
--- Returns a hover from its text and the JSON value of its range, {"contents":{..},"range":R}.
+-- Returns the result of a hover request from its text and the JSON value of its range,
+-- {"contents":{..},"range":R}.
 abbrev pub hover_value : List ℕ → Data → Data
 hover_value said range =
     object (member (codes "contents") (plain_text said) (member (codes "range") range no_members))
 
--- Returns a list of edits, `[E,..]`.
+-- Returns the JSON value of a list of edits, `[E,..]`.
 abbrev pub edits_value : List Edit → Data
 edits_value es = array (items_of (map edit_value es))
 
--- Returns a document at a version, {"uri":u,"version":v}.
+-- Returns the JSON value that identifies a version of a document, {"uri":u,"version":v}.
 abbrev pub versioned_document : List ℕ → ℤ → Data
 versioned_document uri version =
     object
@@ -140,7 +141,7 @@ diagnostic_value d =
     (member (codes "range") (range_value d.start d.end)
     (member (codes "severity") (number (unsigned 1)) no_members))))
 
--- Returns a list of diagnostics, `[D,..]`.
+-- Returns the JSON value of a list of diagnostics, `[D,..]`.
 abbrev pub diagnostics_value : List Diagnostic → Data
 diagnostics_value ds = array (items_of (map diagnostic_value ds))
 

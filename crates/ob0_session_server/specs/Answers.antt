@@ -79,8 +79,8 @@ pub data Reply : Type 0 where
 abbrev pub Sends : Data → List (List ℕ) → Type 0
 Sends message sent = (bytes : List ℕ) × (sent ≡ bytes ∷ []) × Writes message bytes
 
--- Holds if these contents are this reply. They are none for `nothing`. Otherwise there is exactly
--- one: the given message, or a message with the text's diagnostics or the answer about the text.
+-- Holds if these contents are this reply: no content for `nothing`, otherwise exactly one. That
+-- content is the given message, the text's diagnostics, or the answer about the text.
 abbrev pub SaysReply : Reply → List (List ℕ) → Type 0
 SaysReply nothing sent = sent ≡ []
 SaysReply (says message) sent = Sends message sent
