@@ -75,12 +75,12 @@ pub record Diagnostic : Type 0 where
   pub start : Position
   pub end : Position
 
--- Returns a location from its uri and the JSON value of its range, {"range":R,"uri":u}.
+-- Returns the JSON value of a location, {"range":R,"uri":u}, from its uri and its range's value.
 abbrev pub location_value : List ℕ → Data → Data
 location_value uri range =
     object (member (codes "range") range (member (codes "uri") (text uri) no_members))
 
--- Returns the location of a range in the document with this uri.
+-- Returns the JSON value of the location of a range in the document with this uri.
 abbrev pub location_in : List ℕ → Range → Data
 location_in uri range = location_value uri (range_value range.start range.end)
 
@@ -112,7 +112,7 @@ document_edit uri version es =
     object (member (codes "edits") (edits_value es)
     (member (codes "textDocument") (versioned_document uri version) no_members))
 
--- Returns the edits of a document: {"documentChanges":[..]} for a client that accepts it, otherwise
+-- Returns the edits as {"documentChanges":[..]} for a client that accepts this, otherwise as
 -- {"changes":{u:[E,..]}}.
 abbrev pub workspace_edit : Client → List ℕ → ℤ → List Edit → Data
 workspace_edit client uri version es =
@@ -122,7 +122,7 @@ workspace_edit client uri version es =
     else object
     (member (codes "changes") (object (member uri (edits_value es) no_members)) no_members)
 
--- Returns a code action from the JSON value of its edits and its title,
+-- Returns the JSON value of a code action, from the value of its edits and its title,
 -- {"edit":W,"kind":"refactor.inline","title":t}.
 abbrev pub action_value : Data → List ℕ → Data
 action_value edit title =

@@ -19,8 +19,8 @@ use std::alloc::{AllocError, Global};
 /// never longer.
 const PREFIX_CAPACITY: usize = 192;
 
-/// The usual length in bytes of a location's text before its uri. The capacity for a list is
-/// estimated by it.
+/// A length in bytes that a location's text before its uri usually fits in. The capacity for a list
+/// of locations is estimated with it.
 const TYPICAL_PREFIX: usize = 96;
 
 /// A location: a range of the document with this uri.
