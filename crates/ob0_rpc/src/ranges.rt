@@ -15,7 +15,8 @@ use itoa::write_digits;
 use ob0_text::{Edit, Position, Range};
 use std::alloc::AllocError;
 
-/// The number of bytes of a buffer for a range's text together with the text around it. They are never longer.
+/// The length in bytes of a buffer for a range's text and the text around it. Together they are
+/// never longer.
 const RANGE_CAPACITY: usize = 176;
 
 impl WriteJson for Position {

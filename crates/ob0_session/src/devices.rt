@@ -9,7 +9,7 @@ ghost use Rattle.ob0_session.specs.Devices.{ReadCounts, with_read};
 
 use thiserror::Error;
 
-/// The error of a device: a call failed, or a write of some bytes wrote no byte.
+/// The error of a device: a call failed, or a write of at least one byte wrote nothing.
 #[derive(Clone, Copy, Debug, PartialEq, Eq, Error)]
 #[error("the device failed")]
 pub struct DeviceFault;
@@ -53,7 +53,7 @@ pub trait OutputDevice {
         ensures noted { has_failed self.new ≡ (has_failed self.old || is_err result) }
         ensures flushed { is_flushed self.new ≡ false };
 
-    /// Flushes all the bytes written. If the flush fails, the device counts as flushed only if it did before.
+    /// Flushes all the bytes written. If the flush fails, `is_flushed` is unchanged.
     fn flush(&mut self) -> Result<(), DeviceFault>
         ensures bytes { Keeps (contents self.old) (contents self.new) }
         ensures noted { has_failed self.new ≡ (has_failed self.old || is_err result) }

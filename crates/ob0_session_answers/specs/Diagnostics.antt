@@ -1,4 +1,4 @@
--- Defines the diagnostics of a text: the reported complaints, with positions.
+-- Defines the diagnostics of a text: the complaints that are reported for it, with positions.
 -- Rule: docs/PROTOCOL.md, Publishing 3, JSON shapes 2.
 use Rattle.std.specs.Prelude.{◌≡◌, ℕ, ℤ, List, Some, map}
 use Rattle.ob0_rpc.specs.Writing.{Writes}

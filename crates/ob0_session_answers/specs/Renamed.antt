@@ -44,7 +44,8 @@ edits_for_client requested edits =
     workspace_edit requested.client requested.at.uri requested.version edits
 
 -- Holds if the message answers the request for renaming in a document with this text: with edits,
--- or with a refusal. Positions are counted in this unit.
+-- with a refusal of the renaming, or with the refusal that the text is ill-typed. Positions are
+-- counted in this unit.
 abbrev pub AnswersRenaming : Unit → RequestedRename → List ℕ → Data → Type 0
 AnswersRenaming unit requested text message =
     ((edits : List Edit)
