@@ -68,8 +68,8 @@ pub(crate) struct LexemeCounts {
     pub(crate) comments: usize,
 }
 
-/// The newly scanned tokens and comments, and the old ones that they replace: the old ones after
-/// the first `front` and before index `following`.
+/// The newly scanned tokens and comments, and the ranges of old ones that they replace. Each range
+/// begins at the index in `front` and ends before the index in `following`.
 #[derive(Drop)]
 pub(crate) struct Between {
     pub(crate) front: LexemeCounts,
@@ -175,7 +175,7 @@ fn is_same_name(new_text: &[u8], new: Token, old_text: &[u8], old: Token) -> boo
     }
 }
 
-/// Returns true for the kind of an identifier.
+/// Returns true if a kind of token is the identifier.
 fn is_name(kind: TokenKind) -> bool
     ensures yes { result ≡ true → kind ≡ Identifier }
     ensures no { result ≡ false → (text : List ℕ) → name_of kind text ≡ [] }
@@ -229,7 +229,7 @@ fn is_same_kind(a: TokenKind, b: TokenKind) -> bool
     }
 }
 
-/// Returns true for the kind of an integer.
+/// Returns true if a kind of token is an integer.
 fn is_integer(kind: TokenKind) -> bool
     ensures { result ≡ true → valueless kind ≡ Integer 0 }
 {
@@ -262,7 +262,7 @@ impl From<AllocError> for NotRescanned {
 /// Returns the tokens and comments of `new_text`, or its faults. `new_text` is the text of `old`
 /// with the `removed` bytes starting at byte `from` replaced by `added` others. The old tokens and
 /// comments before the change are reused. The scan ends at the first place after the change at
-/// which an old token or comment begins.
+/// which an old token or comment begins, and reuses the old ones that begin there or later.
 pub fn rescan(
     alloc: Global,
     old: &Tokens,
@@ -285,9 +285,9 @@ pub fn rescan(
     }
 }
 
-/// Changes the old tokens and comments into those of `new_text`, like `rescan` but without a copy:
-/// the ones before the change aren't moved. If the text has faults, the old tokens are returned
-/// with them. If an allocation fails, the old tokens are lost.
+/// Turns the old tokens and comments into the tokens and comments of `new_text`. Works like
+/// `rescan`, but in place: the old tokens before the change aren't copied. If the new text has
+/// faults, they are returned with the old tokens. If an allocation fails, the old tokens are lost.
 pub fn rescan_in_place(
     alloc: Global,
     old: Tokens,
@@ -344,8 +344,8 @@ pub fn rescan_in_place(
     }
 }
 
-/// Returns the error for a changed text that wasn't scanned. If the text has faults, the old tokens
-/// are returned with them.
+/// Returns the error for a changed text that wasn't scanned. If the text has faults, the error also
+/// has the old tokens.
 fn refuse(
     old: Tokens,
     new_text: &str,
