@@ -43,13 +43,13 @@ pub record IsThere {s : Sort} (ts : List Token) (from at next : ℕ) (t : Tree �
   pub forward : at < next
   pub within : next ≤ length ts
 
--- Holds if the tokens `at..next` have the kinds that the tree spells, and its nesting is within the
--- limit. Its leaves must be the indexes of these tokens.
+-- Holds if the tokens `at..next` have the kinds that the tree spells, its leaves are the indexes of
+-- these tokens, and its nesting is within the limit.
 abbrev pub IsInPlace : {s : Sort} → List Token → ℕ → ℕ → Tree ℕ s → Type 0
 IsInPlace ts at next t = IsThere ts at at next t
 
--- Holds if a procedure's leaves are the indexes of its tokens, which are at the place that these
--- leaves give.
+-- Holds if the procedure's tokens are at the place that its leaves give, and its leaves are the
+-- indexes of these tokens.
 abbrev pub IsMade : List Token → Procedure → Type 0
 IsMade ts p = IsInPlace ts (first_of (procedure_of p)) (end_of (procedure_of p)) (procedure_of p)
 
@@ -129,8 +129,8 @@ CarriesAll same xs ys =
     → Each (IsWaiting old) xs
     → Each (IsWaiting new) ys
 
--- Holds if `after` wait in the new text whenever `p` is in place in the old text and `before` wait
--- in the new text.
+-- Holds if the procedures `after` wait in the new text whenever `p` is in place in the old text and
+-- the procedures `before` wait in the new text.
 abbrev pub CarriesMade : SameTokens
     → Procedure
     → List KeptProcedure
@@ -143,8 +143,8 @@ CarriesMade same p before after =
     → Each (IsWaiting new) before
     → Each (IsWaiting new) after
 
--- Holds if `after` wait in the new text whenever `ps` are in place in the old text and `before`
--- wait in the new text.
+-- Holds if the procedures `after` wait in the new text whenever the procedures `ps` are in place in
+-- the old text and the procedures `before` wait in the new text.
 abbrev pub CarriesAllMade : SameTokens
     → List Procedure
     → List KeptProcedure
@@ -166,8 +166,8 @@ CarriesBody same a b =
     → IsBodyThere old a
     → IsBodyThere new b
 
--- Holds if in any two texts with these same tokens, `b` is in place in the new text whenever `a` is
--- in place in the old text. An absent body counts as in place.
+-- Holds if the body `b` is at its place in the new text whenever the body `a` is at its place in
+-- the old text. An absent body counts as being at its place.
 abbrev pub CarriesAnyBody : SameTokens → Option KeptBody → Option KeptBody → Type 0
 CarriesAnyBody same a b =
     (old new : List Token) → HasSameTokens same old new → IsBodyKept old a → IsBodyKept new b

@@ -55,8 +55,8 @@ pub struct KeptBody {
     pub next: usize,
 }
 
-/// The procedures of a module's own block, and its body. A later parse reuses them when it reaches
-/// their tokens.
+/// The trees of earlier parses that can be reused: procedures of a module's own block, and its body.
+/// A parse reuses them when it reaches their tokens.
 #[derive(Drop)]
 pub struct Kept {
     /// The procedures that the last parse made or reused, in text order. Their leaves are in place.
@@ -68,7 +68,7 @@ pub struct Kept {
 }
 
 impl Kept {
-    /// Returns a `Kept` without any tree.
+    /// Returns a value that keeps no tree.
     pub fn none(alloc: Global) -> Kept
         ensures { (ts : List Token) → AreKept ts result }
     {
@@ -79,7 +79,8 @@ impl Kept {
         }
     }
 
-    /// Keeps the procedures of a tree. Also keeps its body if the tree has procedures.
+    /// Returns a value that keeps the procedures of a tree. If the tree has procedures, its body is
+    /// also kept.
     pub fn of(alloc: Global, tree: ModuleTree) -> Kept
         ensures { (s : Scanned) → IsParsed (parsed_by s tree) → AreKept s.tokens result }
     {
@@ -95,8 +96,8 @@ impl Kept {
         }
     }
 
-    /// Keeps the trees whose tokens are also in the changed text, with their places there. The
-    /// other trees are dropped.
+    /// Returns the kept trees whose tokens are also in the changed text, with their places in that
+    /// text. The other trees are dropped.
     pub fn after(self, alloc: Global, same: SameTokens) -> Result<Kept, AllocError>
         ensures { IfOk result (λ kept. (old new : List Token)
             → HasSameTokens same old new

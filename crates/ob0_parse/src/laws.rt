@@ -20,7 +20,8 @@ pub fn modules_are_read()
         → DescendsText (lexemes text.tokens) Done }
 {}
 
-/// Proves at which places the descent stops in some texts.
+/// Proves that the descent stops at the stated places in the examples of docs/LANGUAGE.md, and at
+/// the 101st of 101 constructs nested in each other.
 pub fn stops_of_examples()
     ensures expected { ExpectedRows }
     ensures deep { DeepRows }

@@ -71,8 +71,8 @@ abbrev pub is_assigned : List (Terminal ℕ) → Bool
 is_assigned (Mark (kind.Symbol symbol.Becomes) ∷ tokens) = true
 is_assigned tokens = is_next selector tokens
 
--- Returns the parts of one item that consists of an operator and its right side, a construct of the
--- sort `s`.
+-- Returns the parts of an item that consists of an operator, the next token, and a construct of the
+-- sort `s` on its right side.
 abbrev pub operation : Sort → ℕ → List (Terminal ℕ) → Choice
 operation s room (Mark k ∷ tokens) = parts (token k ∷ node s room ∷ [])
 operation s room tokens = missing expected.Expression

@@ -158,7 +158,7 @@ impl<'t> Parser<'t> {
         Ok((Names { first, more }, next))
     }
 
-    /// Parses an expression, `simple [relation simple]`. An operand of a single token is made
+    /// Parses an expression, `simple [relation simple]`. If it is a single token, its tree is made
     /// directly.
     #[cycle(expressions)]
     #[inline(always)]
@@ -255,7 +255,7 @@ impl<'t> Parser<'t> {
         }
     }
 
-    /// Parses a simple expression. A single token is made directly.
+    /// Parses a simple expression. If it is a single token, its tree is made directly.
     #[cycle(expressions)]
     #[inline(always)]
     fn side(&self, at: usize, room: u32) -> Parsed<Simple>
@@ -281,7 +281,7 @@ impl<'t> Parser<'t> {
         ))
     }
 
-    /// Parses a term. A single token is made directly.
+    /// Parses a term. If it is a single token, its tree is made directly.
     #[cycle(expressions)]
     #[inline(always)]
     fn summand(&self, at: usize, room: u32) -> Parsed<Term>
@@ -295,7 +295,7 @@ impl<'t> Parser<'t> {
         Ok((Term { first, more }, at + 1))
     }
 
-    /// Parses a factor. A single token is made directly.
+    /// Parses a factor. If it is a single token, its tree is made directly.
     #[cycle(expressions)]
     #[inline(always)]
     fn operand(&self, at: usize, room: u32) -> Parsed<Factor>
@@ -325,7 +325,8 @@ impl<'t> Parser<'t> {
         Ok((Simple { sign, first, more }, next))
     }
 
-    /// Returns the sign at this token, or None, and the index after it.
+    /// Returns the sign at the index `at` and the index after it. If there is no sign, returns None
+    /// and `at`.
     fn sign(&self, at: usize) -> (Option<Sign>, usize)
         requires { at ≤ length self.now.tokens.now }
         ensures { SignTaken self.now.tokens.now at result.0 result.1 }
@@ -498,7 +499,7 @@ fn binding(next: Option<TokenKind>) -> u8
     }
 }
 
-/// Returns the relation that this token is, or None if it is none.
+/// Returns the relation that a token of this kind spells, or None if it spells no relation.
 fn relation_of(kind: TokenKind) -> Option<Relation>
     ensures { IsMarkOf relation_mark BY_COMPARISON kind result }
 {
@@ -513,7 +514,7 @@ fn relation_of(kind: TokenKind) -> Option<Relation>
     }
 }
 
-/// Returns the operator `+`, `-` or OR that this token is, or None if it is none.
+/// Returns the operator if a token of this kind is `+`, `-` or OR, otherwise None.
 fn add_operator_of(kind: TokenKind) -> Option<AddOperator>
     ensures { IsMarkOf add_mark BY_ADDITION kind result }
 {
@@ -525,7 +526,7 @@ fn add_operator_of(kind: TokenKind) -> Option<AddOperator>
     }
 }
 
-/// Returns the operator `*`, DIV, MOD or `&` that this token is, or None if it is none.
+/// Returns the operator if a token of this kind is `*`, DIV, MOD or `&`, otherwise None.
 fn multiply_operator_of(kind: TokenKind) -> Option<MultiplyOperator>
     ensures { IsMarkOf multiply_mark BY_MULTIPLICATION kind result }
 {
@@ -538,7 +539,7 @@ fn multiply_operator_of(kind: TokenKind) -> Option<MultiplyOperator>
     }
 }
 
-/// Returns the refusal for a syntax error at this token, where `expected` should be.
+/// Returns a syntax error: `expected` is expected at the token with this index.
 pub fn missing<T>(token: usize, expected: Expected) -> Result<T, ParseRefusal>
     ensures { result ≡ Err (Syntax token expected) }
 {

@@ -22,7 +22,7 @@ names_only xs = map (λ x. x.1) xs
 abbrev pub leaves : {N : Type 0} {s : Sort} → Tree N s → List N
 leaves t = names_only (identifiers role.Declaring t)
 
--- Returns a list of the index `i` if the token is an identifier, otherwise an empty list.
+-- Returns a list of the index `i` if the kind is the identifier, otherwise an empty list.
 abbrev pub identifier_at : ℕ → TokenKind → List ℕ
 identifier_at i kind.Identifier = i ∷ []
 identifier_at i k = []

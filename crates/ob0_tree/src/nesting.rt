@@ -32,7 +32,7 @@ impl<'t> Module<'t> {
     }
 }
 
-/// Returns one level more, at most 2^32 - 1.
+/// Returns the number of levels plus 1, at most 2^32 - 1.
 fn deeper(levels: u32) -> u32
     ensures { result ≡ capped (levels + 1) }
 {
