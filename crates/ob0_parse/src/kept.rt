@@ -55,8 +55,8 @@ pub struct KeptBody {
     pub next: usize,
 }
 
-/// The trees of earlier parses that can be reused: procedures of a module's own block, and its body.
-/// A parse reuses them when it reaches their tokens.
+/// The trees of earlier parses that can be reused: procedures of a module's own block, and the
+/// module's body. A later parse reuses them when it reaches their tokens.
 #[derive(Drop)]
 pub struct Kept {
     /// The procedures that the last parse made or reused, in text order. Their leaves are in place.

@@ -79,7 +79,7 @@ fn own_procedure(
 }
 
 /// Returns the body of a module that begins at this token: the kept body if it begins here,
-/// otherwise a parsed one. Returns no statements if this token isn't BEGIN.
+/// otherwise a parsed one. Returns None as the body if this token isn't BEGIN.
 fn own_body(
     parser: &Parser<'_>,
     at: usize,
