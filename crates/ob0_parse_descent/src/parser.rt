@@ -22,8 +22,8 @@ use ob0_tree::{
 };
 use std::alloc::{AllocError, Global};
 
-/// The strength of a selector, which binds the operand before it most strongly (see `binding`). A smaller number binds
-/// more strongly.
+/// The strength of a selector, which binds the operand before it most strongly (see `binding`). A
+/// smaller number binds more strongly.
 const BY_SELECTOR: u8 = 1;
 
 /// The strength of `*`, DIV, MOD and `&`.
@@ -190,8 +190,8 @@ impl<'t> Parser<'t> {
         Ok((Expression::Compound(compound), end))
     }
 
-    /// Returns the expression that consists of this simple expression without a relation. It has the compact form if it
-    /// is a single factor.
+    /// Returns the expression that consists only of this simple expression, without a relation. If
+    /// it is a single factor, the factor isn't boxed.
     #[inline(always)]
     fn lone_side(&self, side: Simple) -> Result<Expression, AllocError>
         ensures { IfOk result (λ e. expression_of e ≡ compares (simple_of side) none) }
@@ -225,8 +225,9 @@ impl<'t> Parser<'t> {
         Ok(Some((Comparison { relation, right }, next)))
     }
 
-    /// Returns the factor that consists of the token at `at`. Returns None if that token is neither an identifier nor
-    /// an integer. Also returns None if the next token binds it with the strength `level` or more strongly.
+    /// Returns the factor that consists of the token at `at`. Returns None if that token is neither
+    /// an identifier nor an integer. Also returns None if the next token binds it with the strength
+    /// `level` or more strongly.
     #[inline(always)]
     fn lone(&self, at: usize, level: u8) -> Option<Factor>
         requires within { at ≤ length self.now.tokens.now }
@@ -370,7 +371,8 @@ impl<'t> Parser<'t> {
         Ok((Term { first, more }, next))
     }
 
-    /// Parses an optional `("*" | DIV | MOD | "&") factor`. Returns None if no such operator comes next.
+    /// Parses an optional `("*" | DIV | MOD | "&") factor`. Returns None if no such operator comes
+    /// next.
     #[cycle(expressions)]
     fn multiplier(&self, at: usize, room: u32) -> ParsedItem<Multiplier>
         requires { at ≤ length self.now.tokens.now }

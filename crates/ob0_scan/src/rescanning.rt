@@ -90,7 +90,8 @@ impl Between {
         are_alike(&self.tokens, &old[self.front.tokens..self.following.tokens])
     }
 
-    /// Returns true only if the new identifiers have the same spelling as the old ones that they replace.
+    /// Returns true only if the new identifiers have the same spelling as the old ones that they
+    /// replace.
     fn has_names_of(&self, new_text: &str, old: &Tokens) -> bool
         requires ordered { self.now.front.tokens ≤ self.now.following.tokens }
         requires inside { self.now.following.tokens ≤ length old.now.tokens }
@@ -107,7 +108,8 @@ impl Between {
         )
     }
 
-    /// Returns true only if the new tokens have the same kinds and spelling as the old ones that they replace.
+    /// Returns true only if the new tokens have the same kinds and spelling as the old ones that
+    /// they replace.
     fn has_words_of(&self, new_text: &str, old: &Tokens) -> bool
         requires ordered { self.now.front.tokens ≤ self.now.following.tokens }
         requires inside { self.now.following.tokens ≤ length old.now.tokens }
@@ -147,8 +149,8 @@ fn is_same_word(new_text: &[u8], new: Token, old_text: &[u8], old: Token) -> boo
     new.kind == old.kind && is_same_piece(new_text, new.span, old_text, old.span)
 }
 
-/// Returns true only if the identifiers among the tokens of two texts are at the same indexes and have the same
-/// spellings.
+/// Returns true only if the identifiers among the tokens of two texts are at the same indexes and
+/// have the same spellings.
 fn have_same_names(new_text: &[u8], new: &[Token], old_text: &[u8], old: &[Token]) -> bool
     ensures { result ≡ true → names_in new_text.now new.now ≡ names_in old_text.now old.now }
 {
@@ -163,7 +165,8 @@ fn have_same_names(new_text: &[u8], new: &[Token], old_text: &[u8], old: &[Token
     true
 }
 
-/// Returns true only if two tokens of two texts are identifiers with the same spelling, or neither is an identifier.
+/// Returns true only if two tokens of two texts are identifiers with the same spelling, or neither
+/// is an identifier.
 fn is_same_name(new_text: &[u8], new: Token, old_text: &[u8], old: Token) -> bool
     ensures { result ≡ true → name_of new.kind (spanned new_text.now new.span)
         ≡ name_of old.kind (spanned old_text.now old.span) }
@@ -199,7 +202,8 @@ fn is_same_piece(a: &[u8], in_a: Span, b: &[u8], in_b: Span) -> bool
         && a[in_a.start as usize..in_a.end as usize] == b[in_b.start as usize..in_b.end as usize]
 }
 
-/// Returns true only if two lists of tokens have the same kinds, one by one. The values of integers may differ.
+/// Returns true only if two lists of tokens have the same kinds, one by one. The values of integers
+/// may differ.
 fn are_alike(new: &[Token], old: &[Token]) -> bool
     ensures { result ≡ true → kinds new.now ≡ kinds old.now }
 {

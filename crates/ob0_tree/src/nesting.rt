@@ -1,8 +1,8 @@
 //! Computes the nesting of a module's constructs.
 //!
-//! The private functions use saturating addition, so that the recursive functions need no precondition: their clauses
-//! say `capped (nesting ..)`. `Module::nesting` removes the cap, because by its invariant a module has at most 100
-//! levels.
+//! The private functions use saturating addition, so that the recursive functions need no
+//! precondition: their clauses say `capped (nesting ..)`. `Module::nesting` removes the cap,
+//! because by its invariant a module has at most 100 levels.
 
 ghost use Rattle.std.specs.Prelude.{◌≡◌, ◌+◌};
 ghost use Rattle.ob0_tree.specs.Tree.{nesting};
