@@ -106,8 +106,9 @@ abbrev pub CarriesTo : SameTokens → KeptProcedure → KeptProcedure → Type 0
 CarriesTo same a b =
     (old new : List Token) → HasSameTokens same old new → IsWaiting old a → IsWaiting new b
 
--- Holds if the procedures `after` wait in the new text whenever `a` waits in the old text and
--- `before` wait in the new text.
+-- Holds if the procedures `after` wait in the new text whenever `a` waits in the old text and the
+-- procedures `before` wait in the new text. The two texts may be any that share the tokens which
+-- `same` describes.
 abbrev pub CarriesOne : SameTokens
     → KeptProcedure
     → List KeptProcedure
@@ -121,7 +122,7 @@ CarriesOne same a before after =
     → Each (IsWaiting new) after
 
 -- Holds if the procedures `ys` wait in the new text whenever the procedures `xs` wait in the old
--- text.
+-- text. The two texts may be any that share the tokens which `same` describes.
 abbrev pub CarriesAll : SameTokens → List KeptProcedure → List KeptProcedure → Type 0
 CarriesAll same xs ys =
     (old new : List Token)
@@ -130,7 +131,8 @@ CarriesAll same xs ys =
     → Each (IsWaiting new) ys
 
 -- Holds if the procedures `after` wait in the new text whenever `p` is in place in the old text and
--- the procedures `before` wait in the new text.
+-- the procedures `before` wait in the new text. The two texts may be any that share the tokens
+-- which `same` describes.
 abbrev pub CarriesMade : SameTokens
     → Procedure
     → List KeptProcedure
@@ -144,7 +146,8 @@ CarriesMade same p before after =
     → Each (IsWaiting new) after
 
 -- Holds if the procedures `after` wait in the new text whenever the procedures `ps` are in place in
--- the old text and the procedures `before` wait in the new text.
+-- the old text and the procedures `before` wait in the new text. The two texts may be any that
+-- share the tokens which `same` describes.
 abbrev pub CarriesAllMade : SameTokens
     → List Procedure
     → List KeptProcedure
@@ -158,7 +161,7 @@ CarriesAllMade same ps before after =
     → Each (IsWaiting new) after
 
 -- Holds if the body `b` is at its place in the new text whenever the body `a` is at its place in
--- the old text.
+-- the old text. The two texts may be any that share the tokens which `same` describes.
 abbrev pub CarriesBody : SameTokens → KeptBody → KeptBody → Type 0
 CarriesBody same a b =
     (old new : List Token)
@@ -167,7 +170,8 @@ CarriesBody same a b =
     → IsBodyThere new b
 
 -- Holds if the body `b` is at its place in the new text whenever the body `a` is at its place in
--- the old text. An absent body counts as being at its place.
+-- the old text. An absent body counts as being at its place. The two texts may be any that share
+-- the tokens which `same` describes.
 abbrev pub CarriesAnyBody : SameTokens → Option KeptBody → Option KeptBody → Type 0
 CarriesAnyBody same a b =
     (old new : List Token) → HasSameTokens same old new → IsBodyKept old a → IsBodyKept new b
