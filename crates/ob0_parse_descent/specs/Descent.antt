@@ -266,7 +266,7 @@ chosen module_text room tokens =
 
 -- ---- the stop
 
--- Holds if the token is this part.
+-- Holds if this token matches this part of a production.
 abbrev pub IsPart : Part → Terminal ℕ → Type 0
 IsPart (token k) x = x ≡ Mark k
 IsPart name x = (n : ℕ) × (x ≡ Name n)

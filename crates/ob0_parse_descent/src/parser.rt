@@ -22,20 +22,20 @@ use ob0_tree::{
 };
 use std::alloc::{AllocError, Global};
 
-/// The strength of a selector, which binds the operand before it most strongly (see `binding`). A
-/// smaller number binds more strongly.
+/// The strength with which a selector binds the operand before it (see `binding`). A smaller number
+/// binds more strongly.
 const BY_SELECTOR: u8 = 1;
 
-/// The strength of `*`, DIV, MOD and `&`.
+/// The strength with which `*`, DIV, MOD and `&` bind the operand before them.
 const BY_MULTIPLICATION: u8 = 2;
 
-/// The strength of `+`, `-` and OR.
+/// The strength with which `+`, `-` and OR bind the operand before them.
 const BY_ADDITION: u8 = 3;
 
-/// The strength of a relation.
+/// The strength with which a relation binds the operand before it.
 const BY_COMPARISON: u8 = 4;
 
-/// The strength of any other token.
+/// The strength of all other tokens, which bind no operand before them.
 const NOT_AT_ALL: u8 = 5;
 
 /// A parsed construct with the index of the token after it, or the refusal.

@@ -14,7 +14,7 @@ abbrev pub Ascending : ℕ → List ℕ → ℕ → Type 0
 Ascending low [] high = low ≤ high
 Ascending low (x ∷ xs) high = (low ≤ x) × Ascending (x + 1) xs high
 
--- Returns the identifiers without their roles.
+-- Returns only the identifiers from a list of identifiers with their roles.
 abbrev pub names_only : {N : Type 0} → List (Role × N) → List N
 names_only xs = map (λ x. x.1) xs
 
