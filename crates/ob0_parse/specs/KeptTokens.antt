@@ -190,8 +190,8 @@ IsMadeAt p k =
 abbrev pub IsTakenAt : List Token → ℕ → Procedure × ℕ → Type 0
 IsTakenAt ts at x = IsInPlace ts at x.1 (procedure_of x.0)
 
--- Holds if `x` is a procedure that begins at the index `at` with its leaves in place, and the index
--- of the token after it, in every text that has all the waiting procedures at their places.
+-- Holds if `IsTakenAt` holds for `x` in every text that has all the waiting procedures at their
+-- places.
 abbrev pub IsTakenFrom : List KeptProcedure → ℕ → Procedure × ℕ → Type 0
 IsTakenFrom waiting at x = (ts : List Token) → Each (IsWaiting ts) waiting → IsTakenAt ts at x
 

@@ -266,7 +266,7 @@ impl From<AllocError> for NotRescanned {
 /// Returns the tokens and comments of `new_text`, or its faults. `new_text` is the text of `old`
 /// with the `removed` bytes starting at byte `from` replaced by `added` others. The old tokens and
 /// comments before the change are reused. The scan ends at the first place after the change at
-/// which an old token or comment begins, and reuses the old ones that begin there or later.
+/// which an old token or comment begins. The old ones that begin there or later are also reused.
 pub fn rescan(
     alloc: Global,
     old: &Tokens,
