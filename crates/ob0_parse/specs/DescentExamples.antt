@@ -38,11 +38,11 @@ ident = kind.Identifier
 abbrev pub one : TokenKind
 one = kind.Integer 1
 
--- MODULE M ;
+-- The kinds of the tokens `MODULE M ;`.
 abbrev pub module_begins : List TokenKind
 module_begins = w reserved.Module ∷ ident ∷ s symbol.Semicolon ∷ []
 
--- END M .
+-- The kinds of the tokens `END M .`.
 abbrev pub module_ends : List TokenKind
 module_ends = w reserved.End ∷ ident ∷ s symbol.Dot ∷ []
 

@@ -43,13 +43,13 @@ pub record IsThere {s : Sort} (ts : List Token) (from at next : ℕ) (t : Tree �
   pub forward : at < next
   pub within : next ≤ length ts
 
--- Holds if the tokens `at..next` have the kinds that the tree spells, and its nesting is within the
--- limit. Its leaves must be the indexes of these tokens.
+-- Holds if the tokens `at..next` have the kinds that the tree spells, its leaves are the indexes of
+-- these tokens, and its nesting is within the limit.
 abbrev pub IsInPlace : {s : Sort} → List Token → ℕ → ℕ → Tree ℕ s → Type 0
 IsInPlace ts at next t = IsThere ts at at next t
 
--- Holds if a procedure's leaves are the indexes of its tokens, which are at the place that these
--- leaves give.
+-- Holds if the procedure's tokens are at the place that its leaves give, and its leaves are the
+-- indexes of these tokens.
 abbrev pub IsMade : List Token → Procedure → Type 0
 IsMade ts p = IsInPlace ts (first_of (procedure_of p)) (end_of (procedure_of p)) (procedure_of p)
 
@@ -106,8 +106,9 @@ abbrev pub CarriesTo : SameTokens → KeptProcedure → KeptProcedure → Type 0
 CarriesTo same a b =
     (old new : List Token) → HasSameTokens same old new → IsWaiting old a → IsWaiting new b
 
--- Holds if the procedures `after` wait in the new text whenever `a` waits in the old text and
--- `before` wait in the new text.
+-- Holds if the procedures `after` wait in the new text whenever `a` waits in the old text and the
+-- procedures `before` wait in the new text. The two texts may be any that share the tokens which
+-- `same` describes.
 abbrev pub CarriesOne : SameTokens
     → KeptProcedure
     → List KeptProcedure
@@ -121,7 +122,7 @@ CarriesOne same a before after =
     → Each (IsWaiting new) after
 
 -- Holds if the procedures `ys` wait in the new text whenever the procedures `xs` wait in the old
--- text.
+-- text. The two texts may be any that share the tokens which `same` describes.
 abbrev pub CarriesAll : SameTokens → List KeptProcedure → List KeptProcedure → Type 0
 CarriesAll same xs ys =
     (old new : List Token)
@@ -129,8 +130,9 @@ CarriesAll same xs ys =
     → Each (IsWaiting old) xs
     → Each (IsWaiting new) ys
 
--- Holds if `after` wait in the new text whenever `p` is in place in the old text and `before` wait
--- in the new text.
+-- Holds if the procedures `after` wait in the new text whenever `p` is in place in the old text and
+-- the procedures `before` wait in the new text. The two texts may be any that share the tokens
+-- which `same` describes.
 abbrev pub CarriesMade : SameTokens
     → Procedure
     → List KeptProcedure
@@ -143,8 +145,9 @@ CarriesMade same p before after =
     → Each (IsWaiting new) before
     → Each (IsWaiting new) after
 
--- Holds if `after` wait in the new text whenever `ps` are in place in the old text and `before`
--- wait in the new text.
+-- Holds if the procedures `after` wait in the new text whenever the procedures `ps` are in place in
+-- the old text and the procedures `before` wait in the new text. The two texts may be any that
+-- share the tokens which `same` describes.
 abbrev pub CarriesAllMade : SameTokens
     → List Procedure
     → List KeptProcedure
@@ -158,7 +161,7 @@ CarriesAllMade same ps before after =
     → Each (IsWaiting new) after
 
 -- Holds if the body `b` is at its place in the new text whenever the body `a` is at its place in
--- the old text.
+-- the old text. The two texts may be any that share the tokens which `same` describes.
 abbrev pub CarriesBody : SameTokens → KeptBody → KeptBody → Type 0
 CarriesBody same a b =
     (old new : List Token)
@@ -166,8 +169,9 @@ CarriesBody same a b =
     → IsBodyThere old a
     → IsBodyThere new b
 
--- Holds if in any two texts with these same tokens, `b` is in place in the new text whenever `a` is
--- in place in the old text. An absent body counts as in place.
+-- Holds if the body `b` is at its place in the new text whenever the body `a` is at its place in
+-- the old text. An absent body counts as being at its place. The two texts may be any that share
+-- the tokens which `same` describes.
 abbrev pub CarriesAnyBody : SameTokens → Option KeptBody → Option KeptBody → Type 0
 CarriesAnyBody same a b =
     (old new : List Token) → HasSameTokens same old new → IsBodyKept old a → IsBodyKept new b
@@ -186,12 +190,13 @@ IsMadeAt p k =
 abbrev pub IsTakenAt : List Token → ℕ → Procedure × ℕ → Type 0
 IsTakenAt ts at x = IsInPlace ts at x.1 (procedure_of x.0)
 
--- Holds if `x` is a procedure that begins at the index `at` with its leaves in place. This is for
--- any text that has all the waiting procedures at their places.
+-- Holds if `IsTakenAt` holds for `x` in every text that has all the waiting procedures at their
+-- places.
 abbrev pub IsTakenFrom : List KeptProcedure → ℕ → Procedure × ℕ → Type 0
 IsTakenFrom waiting at x = (ts : List Token) → Each (IsWaiting ts) waiting → IsTakenAt ts at x
 
--- Holds if the procedures `after` wait at their places whenever the procedures `before` do.
+-- Holds if in every text in which the procedures `before` wait at their places, the procedures
+-- `after` also do.
 abbrev pub StayWaiting : List KeptProcedure → List KeptProcedure → Type 0
 StayWaiting before after =
     (ts : List Token) → Each (IsWaiting ts) before → Each (IsWaiting ts) after

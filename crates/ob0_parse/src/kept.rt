@@ -36,8 +36,8 @@ use ob0_scan::SameTokens;
 use ob0_tree::{ModuleTree, Procedure, Statement};
 use std::alloc::{AllocError, Global};
 
-/// A procedure from an earlier parse. Its tokens are now at `at..next`. Its leaves are still the old indexes: they must
-/// be moved by the distance that its first token has moved.
+/// A procedure from an earlier parse. Its tokens are now at `at..next`. Its leaves are still the
+/// old indexes: they must be moved by the distance that its first token has moved.
 #[derive(Drop)]
 pub struct KeptProcedure {
     pub procedure: Procedure,
@@ -45,8 +45,9 @@ pub struct KeptProcedure {
     pub next: usize,
 }
 
-/// The statements of a module's own body from an earlier parse. Their tokens, with BEGIN before them, are now at
-/// `at..next`. Their leaves are the indexes in a text in which BEGIN has the index `from`.
+/// The statements of a module's own body from an earlier parse. Their tokens, with BEGIN before
+/// them, are now at `at..next`. Their leaves are the indexes in a text in which BEGIN has the index
+/// `from`.
 #[derive(Drop)]
 pub struct KeptBody {
     pub statements: Vec<Statement>,
@@ -55,8 +56,8 @@ pub struct KeptBody {
     pub next: usize,
 }
 
-/// The procedures of a module's own block, and its body. A later parse reuses them when it reaches
-/// their tokens.
+/// The trees of earlier parses that can be reused: procedures of a module's own block, and the
+/// module's body. A later parse reuses them when it reaches their tokens.
 #[derive(Drop)]
 pub struct Kept {
     /// The procedures that the last parse made or reused, in text order. Their leaves are in place.
@@ -68,7 +69,7 @@ pub struct Kept {
 }
 
 impl Kept {
-    /// Returns a `Kept` without any tree.
+    /// Returns a value that keeps no tree.
     pub fn none(alloc: Global) -> Kept
         ensures { (ts : List Token) → AreKept ts result }
     {
@@ -79,7 +80,8 @@ impl Kept {
         }
     }
 
-    /// Keeps the procedures of a tree. Also keeps its body if the tree has procedures.
+    /// Returns a value that keeps the procedures of a tree. If the tree has procedures, its body is
+    /// also kept.
     pub fn of(alloc: Global, tree: ModuleTree) -> Kept
         ensures { (s : Scanned) → IsParsed (parsed_by s tree) → AreKept s.tokens result }
     {
@@ -95,8 +97,8 @@ impl Kept {
         }
     }
 
-    /// Keeps the trees whose tokens are also in the changed text, with their places there. The
-    /// other trees are dropped.
+    /// Returns the kept trees whose tokens are also in the changed text, with their places in that
+    /// text. The other trees are dropped.
     pub fn after(self, alloc: Global, same: SameTokens) -> Result<Kept, AllocError>
         ensures { IfOk result (λ kept. (old new : List Token)
             → HasSameTokens same old new
@@ -156,8 +158,9 @@ fn keep_waiting(
     Ok(kept)
 }
 
-/// Appends the procedures whose tokens are also in the changed text, from the last to the first, with their places
-/// there. The leaves of the given procedures are in place, and `made` is empty afterwards.
+/// Moves procedures of the last parse from `made` to `kept`, from the last to the first, with their
+/// places in the changed text. Drops those whose tokens the changed text doesn't have. Afterwards
+/// `made` is empty.
 fn keep_made(
     kept: &mut Vec<KeptProcedure>,
     made: &mut Vec<Procedure>,
@@ -187,7 +190,8 @@ fn keep(
     Ok(())
 }
 
-/// Appends a procedure of the last parse with its place in the changed text, if that text has its tokens.
+/// Appends a procedure of the last parse with its place in the changed text, if that text has its
+/// tokens.
 fn keep_one_made(
     kept: &mut Vec<KeptProcedure>,
     procedure: Procedure,
@@ -212,8 +216,8 @@ fn keep_body(body: Option<KeptBody>, same: SameTokens) -> Option<KeptBody>
     }
 }
 
-/// Returns a procedure whose leaves are in place, with the place that its leaves give. Returns None if the index after
-/// its last token is too large.
+/// Returns the procedure with the place of its tokens. Its leaves must be in place, because they
+/// give that place. Returns None if the index after its last token is too large.
 fn made_at(procedure: Procedure) -> Option<KeptProcedure>
     ensures { IfSome result (IsMadeAt procedure) }
 {
@@ -290,8 +294,8 @@ fn place_after(at: usize, next: usize, same: SameTokens) -> Option<(usize, usize
     Some((at, next))
 }
 
-/// Returns the new index of a token that lies after the change, given its old index. Returns None if the token isn't
-/// after the change.
+/// Returns the new index of a token that lies after the change, given its old index. Returns None
+/// if the token isn't after the change.
 fn place_after_change(index: usize, same: SameTokens) -> Option<usize>
     ensures { IfSome result (λ place. (same.old_suffix ≤ index)
         × (place + same.old_suffix ≡ index + same.new_suffix)) }

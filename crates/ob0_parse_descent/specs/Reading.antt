@@ -24,8 +24,8 @@ use Rattle.ob0_parse_descent.specs.declared.refusal.Expected.TheVariants as expe
 use Rattle.ob0_parse_descent.specs.declared.refusal.ParseRefusal.{ParseRefusal}
 use Rattle.ob0_parse_descent.specs.declared.refusal.ParseRefusal.TheVariants.{Syntax, TooDeep, Memory}
 
--- Returns the token at the index `i` as a tree over indexes spells it. None stands for the end of
--- the text.
+-- Returns the token at the index `i`, in the form in which a tree over indexes spells it. For None
+-- it is the end of the text.
 abbrev pub lexeme_at : ℕ → Option TokenKind → Terminal ℕ
 lexeme_at i None = EndOfText
 lexeme_at i (Some k) = lexeme_of i k
@@ -113,7 +113,8 @@ pub record FailsToRead
   pub reads : StopsBy parts ts at e
 
 -- Holds for a parsed construct if it is the tree that begins at the index `at`. Holds for a refusal
--- if no such construct can be read there. `view` gives the tree of a value of the code.
+-- if no construct of this sort can be read at `at`, as the refusal says. `view` gives the tree that
+-- a value of the code means.
 abbrev pub Reads : {A : Type 0} {s : Sort}
     → (A → Tree ℕ s)
     → ℕ
@@ -216,8 +217,8 @@ ReadsDesignator room ts at (Ok x) =
     × ¬ Starts 1 (rest ts x.1)
 ReadsDesignator room ts at (Err e) = FailsToRead (name ∷ node (items selector) room ∷ []) ts at e
 
--- Holds if the option is the operator that the token `k` spells. None requires that the token's
--- rank isn't `r`, the rank of these operators.
+-- Holds for an operator if the token `k` spells it. Holds for None if the rank of the token `k`
+-- isn't `r`, the rank of these operators.
 abbrev pub IsMarkOf : {A : Type 0} → (A → TokenKind) → ℕ → TokenKind → Option A → Type 0
 IsMarkOf mark r k (Some a) = k ≡ mark a
 IsMarkOf mark r k None = kind_rank k ≢ r
@@ -235,7 +236,7 @@ pub record ListRead
   pub tail : Taken (items_of further others) room ts middle next
 
 -- Holds for a list of one or more elements if it begins at this index. Holds for a refusal if no
--- such list can be read.
+-- list of such elements can be read at this index.
 abbrev pub ReadsList : {A : Type 0} {s : Sort} {i : Item}
     → (A → Tree ℕ s)
     → (A → Tree ℕ (item i))

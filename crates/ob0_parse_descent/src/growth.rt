@@ -1,4 +1,4 @@
-//! Adds items to lists whose capacity grows by doubling, from room for one item.
+//! Adds items to lists whose capacity doubles when it grows, beginning with room for one item.
 
 ghost use Rattle.std.specs.Prelude.{◌≡◌, ◌≤◌, ◌++◌, ◌∷◌, [], ◌<◌, OnErr, OnOk, vec_capacity, vec_len};
 

@@ -185,7 +185,8 @@ impl<'t> Parser<'t> {
         Ok((elsifs, next))
     }
 
-    /// Parses an optional `ELSIF expression THEN sequence`. Returns None if ELSIF doesn't come next.
+    /// Parses an optional `ELSIF expression THEN sequence`. Returns None if ELSIF doesn't come
+    /// next.
     #[cycle(statements)]
     fn elsif(&self, at: usize, room: u32) -> ParsedItem<Elsif>
         requires { at ≤ length self.now.tokens.now }

@@ -6,9 +6,9 @@ use Rattle.ob0_scan.specs.Scanned.{Scanned, IsScanOf}
 use Rattle.ob0_scan.specs.Reused.{Reuses, kinds, names_in, words_in}
 use Rattle.ob0_scan.specs.SameKinds.{HasSameTokens, HasSameWords}
 
--- Holds if `r` has the scan of the new text and its flags say nothing false. `alike` is about the
--- kinds of all tokens, `same_names` about the identifiers, and `same_words` about kinds and
--- spellings.
+-- Holds if `r` has the scan of the new text, and what each of its flags says is true whenever the
+-- flag is set. `alike` says that all tokens have the same kinds as before, `same_names` that the
+-- identifiers are the same, and `same_words` that all kinds and spellings are.
 pub record IsRescanOf (old : Scanned) (new : List ℕ) (from removed added : ℕ) (r : RescanInPlace)
     : Type 0 where
   pub scan : IsScanOf new r.rescan.tokens

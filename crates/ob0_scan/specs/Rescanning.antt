@@ -61,8 +61,8 @@ pub record TakesOne (s t : Scanner) : Type 0 where
   pub tokens : t.tokens.items ≡ s.tokens.items ++ token_at kind (span_from s.at len)
   pub comments : t.comments.items ≡ s.comments.items ++ comment_at kind (span_from s.at len)
 
--- Holds if the scanner `t` results from the scanner `s` by reading tokens and comments. No old
--- token or comment began at the place of one of these that begins after the change.
+-- Holds if the scanner `t` results from the scanner `s` by reading tokens and comments. If one of
+-- these begins after the change, no old token or comment began at its place.
 pub record ReadsOn (old : Scanned) (from removed added : ℕ) (s t : Scanner) : Type 0 where
   pub tokens : List Token
   pub comments : List Span

@@ -28,7 +28,7 @@ pub(crate) struct ReplacedRange {
 }
 
 impl ReplacedRange {
-    /// Returns the offset in the old text of a byte of the new text that lies after the change.
+    /// Converts the offset of a byte after the change from the new text to the old text.
     pub(crate) fn old_place(self, place: usize) -> usize
         requires following { self.added ≤ place }
         requires small { place + self.removed < 2 ^ 64 }
@@ -68,7 +68,7 @@ impl ReplacedRange {
     }
 }
 
-/// Consecutive tokens and comments of a text, each in text order.
+/// Some consecutive tokens of a text and some of its consecutive comments, each in text order.
 #[derive(Clone, Copy)]
 pub(crate) struct Pieces<'t> {
     pub(crate) tokens: &'t [Token],

@@ -68,8 +68,8 @@ pub(crate) struct LexemeCounts {
     pub(crate) comments: usize,
 }
 
-/// The newly scanned tokens and comments, and the old ones that they replace: the old ones after
-/// the first `front` and before index `following`.
+/// The newly scanned tokens and comments, and the ranges of old ones that they replace. Each range
+/// begins at the index in `front` and ends before the index in `following`.
 #[derive(Drop)]
 pub(crate) struct Between {
     pub(crate) front: LexemeCounts,
@@ -90,7 +90,8 @@ impl Between {
         are_alike(&self.tokens, &old[self.front.tokens..self.following.tokens])
     }
 
-    /// Returns true only if the new identifiers have the same spelling as the old ones that they replace.
+    /// Returns true only if the new identifiers have the same spelling as the old ones that they
+    /// replace.
     fn has_names_of(&self, new_text: &str, old: &Tokens) -> bool
         requires ordered { self.now.front.tokens ≤ self.now.following.tokens }
         requires inside { self.now.following.tokens ≤ length old.now.tokens }
@@ -107,7 +108,8 @@ impl Between {
         )
     }
 
-    /// Returns true only if the new tokens have the same kinds and spelling as the old ones that they replace.
+    /// Returns true only if the new tokens have the same kinds and spelling as the old ones that
+    /// they replace.
     fn has_words_of(&self, new_text: &str, old: &Tokens) -> bool
         requires ordered { self.now.front.tokens ≤ self.now.following.tokens }
         requires inside { self.now.following.tokens ≤ length old.now.tokens }
@@ -147,8 +149,8 @@ fn is_same_word(new_text: &[u8], new: Token, old_text: &[u8], old: Token) -> boo
     new.kind == old.kind && is_same_piece(new_text, new.span, old_text, old.span)
 }
 
-/// Returns true only if the identifiers among the tokens of two texts are at the same indexes and have the same
-/// spellings.
+/// Returns true only if the identifiers among the tokens of two texts are at the same indexes and
+/// have the same spellings.
 fn have_same_names(new_text: &[u8], new: &[Token], old_text: &[u8], old: &[Token]) -> bool
     ensures { result ≡ true → names_in new_text.now new.now ≡ names_in old_text.now old.now }
 {
@@ -163,7 +165,8 @@ fn have_same_names(new_text: &[u8], new: &[Token], old_text: &[u8], old: &[Token
     true
 }
 
-/// Returns true only if two tokens of two texts are identifiers with the same spelling, or neither is an identifier.
+/// Returns true only if two tokens of two texts are identifiers with the same spelling, or neither
+/// is an identifier.
 fn is_same_name(new_text: &[u8], new: Token, old_text: &[u8], old: Token) -> bool
     ensures { result ≡ true → name_of new.kind (spanned new_text.now new.span)
         ≡ name_of old.kind (spanned old_text.now old.span) }
@@ -175,7 +178,7 @@ fn is_same_name(new_text: &[u8], new: Token, old_text: &[u8], old: Token) -> boo
     }
 }
 
-/// Returns true for the kind of an identifier.
+/// Returns true if a kind of token is the identifier.
 fn is_name(kind: TokenKind) -> bool
     ensures yes { result ≡ true → kind ≡ Identifier }
     ensures no { result ≡ false → (text : List ℕ) → name_of kind text ≡ [] }
@@ -199,7 +202,8 @@ fn is_same_piece(a: &[u8], in_a: Span, b: &[u8], in_b: Span) -> bool
         && a[in_a.start as usize..in_a.end as usize] == b[in_b.start as usize..in_b.end as usize]
 }
 
-/// Returns true only if two lists of tokens have the same kinds, one by one. The values of integers may differ.
+/// Returns true only if two lists of tokens have the same kinds, one by one. The values of integers
+/// may differ.
 fn are_alike(new: &[Token], old: &[Token]) -> bool
     ensures { result ≡ true → kinds new.now ≡ kinds old.now }
 {
@@ -229,7 +233,7 @@ fn is_same_kind(a: TokenKind, b: TokenKind) -> bool
     }
 }
 
-/// Returns true for the kind of an integer.
+/// Returns true if a kind of token is an integer.
 fn is_integer(kind: TokenKind) -> bool
     ensures { result ≡ true → valueless kind ≡ Integer 0 }
 {
@@ -262,7 +266,7 @@ impl From<AllocError> for NotRescanned {
 /// Returns the tokens and comments of `new_text`, or its faults. `new_text` is the text of `old`
 /// with the `removed` bytes starting at byte `from` replaced by `added` others. The old tokens and
 /// comments before the change are reused. The scan ends at the first place after the change at
-/// which an old token or comment begins.
+/// which an old token or comment begins. The old ones that begin there or later are also reused.
 pub fn rescan(
     alloc: Global,
     old: &Tokens,
@@ -285,9 +289,9 @@ pub fn rescan(
     }
 }
 
-/// Changes the old tokens and comments into those of `new_text`, like `rescan` but without a copy:
-/// the ones before the change aren't moved. If the text has faults, the old tokens are returned
-/// with them. If an allocation fails, the old tokens are lost.
+/// Turns the old tokens and comments into the tokens and comments of `new_text`. Works like
+/// `rescan`, but in place: the old tokens before the change aren't copied. If the new text has
+/// faults, they are returned with the old tokens. If an allocation fails, the old tokens are lost.
 pub fn rescan_in_place(
     alloc: Global,
     old: Tokens,
@@ -344,8 +348,8 @@ pub fn rescan_in_place(
     }
 }
 
-/// Returns the error for a changed text that wasn't scanned. If the text has faults, the old tokens
-/// are returned with them.
+/// Returns the error for a changed text that wasn't scanned. If the text has faults, the error also
+/// has the old tokens.
 fn refuse(
     old: Tokens,
     new_text: &str,

@@ -2,6 +2,6 @@
 -- Rule: none; for contracts: nesting as the code counts it.
 use Rattle.std.specs.Prelude.{ℕ, min}
 
--- Returns the number, at most 2^32 - 1.
+-- Returns the number, or 2^32 - 1 if the number is larger.
 abbrev pub capped : ℕ → ℕ
 capped n = min n 4294967295

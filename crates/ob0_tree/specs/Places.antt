@@ -9,15 +9,15 @@ use Rattle.ob0_scan.specs.Scanned.{Scanned, spanned}
 use Rattle.ob0_tree.specs.Lexeme.{Terminal, Name, Number, Mark, EndOfText}
 use Rattle.ob0_tree.specs.Tree.{Sort, Tree, mapped}
 
--- Returns the token at the index `i` as a tree over indexes spells it: `i` replaces its name or its
--- number.
+-- Returns the token at the index `i`, in the form in which a tree over indexes spells it: an
+-- identifier or an integer has `i` instead of its name or value.
 abbrev pub lexeme_of : ℕ → TokenKind → Terminal ℕ
 lexeme_of i kind.Identifier = Name i
 lexeme_of i (kind.Integer value) = Number i
 lexeme_of i k = Mark k
 
--- Returns the tokens as a tree over indexes spells them, followed by the end of the text. The first
--- token has the index `i`.
+-- Returns the tokens, in the form in which a tree over indexes spells them, followed by the end of
+-- the text. The first token has the index `i`.
 abbrev pub lexemes_from : ℕ → List Token → List (Terminal ℕ)
 lexemes_from i [] = EndOfText ∷ []
 lexemes_from i (t ∷ ts) = lexeme_of i t.kind ∷ lexemes_from (i + 1) ts

@@ -1,8 +1,8 @@
 //! Computes the nesting of a module's constructs.
 //!
-//! The private functions use saturating addition, so that the recursive functions need no precondition: their clauses
-//! say `capped (nesting ..)`. `Module::nesting` removes the cap, because by its invariant a module has at most 100
-//! levels.
+//! The private functions use saturating addition, so that the recursive functions need no
+//! precondition: their clauses say `capped (nesting ..)`. `Module::nesting` removes the cap,
+//! because by its invariant a module has at most 100 levels.
 
 ghost use Rattle.std.specs.Prelude.{◌≡◌, ◌+◌};
 ghost use Rattle.ob0_tree.specs.Tree.{nesting};
@@ -32,7 +32,7 @@ impl<'t> Module<'t> {
     }
 }
 
-/// Returns one level more, at most 2^32 - 1.
+/// Returns the number of levels plus 1, at most 2^32 - 1.
 fn deeper(levels: u32) -> u32
     ensures { result ≡ capped (levels + 1) }
 {

@@ -22,7 +22,8 @@ use crate::tree::{
 };
 use std::alloc::AllocError;
 
-/// A state that changes at each identifier of a part of a module. Identifiers are visited in text order.
+/// A state that a walk changes at each identifier of a part of a module. The walk visits the
+/// identifiers in text order.
 pub trait Visitor {
     /// Returns the state after an identifier, given its role, the index of its token and the state
     /// before.
