@@ -127,7 +127,7 @@ turns (suc t) condition statements s =
     use_in s (condition s) (λ v. choose s v
     (λ s'. continue_with (statements s') (turns t condition statements)) running)
 
--- functions that perform the call of a name with arguments in a state
+-- a function that performs the call of a name with arguments in a state
 abbrev pub Calls : Type 0 → Type 0
 Calls N = N → List Argument → State → Progress
 
@@ -330,8 +330,8 @@ formal_modes end = []
 formal_modes (more (then_section f) fs) =
     map (λ x. section_mode f) (section_names f) ++ formal_modes fs
 
--- returns the object of a name as statements see it: of a procedure they need to know only the
--- modes of its parameters
+-- returns a name's object as statements see it: a procedure is reduced to the modes of its
+-- parameters
 abbrev pub passing : {N : Type 0}
     → Option (Object Place (ProcedureText N))
     → Option (Object Place (List Mode))
@@ -374,9 +374,9 @@ abbrev pub in_frame : {N : Type 0}
 in_frame s None next = stopped Stuck s.output
 in_frame s (Some f) next = next f record s { store = f.store }
 
--- Runs the body of the procedure that the first binding of an environment names. The call has its
--- own variables. It sees the bindings that were visible at the procedure's declaration, in the
--- activation that declared it.
+-- Executes the body of the procedure in the first binding of an environment. The call has its own
+-- variables. The body also sees this environment: the bindings that were visible after the
+-- procedure's heading, in the activation that declared the procedure.
 unfoldable pub activate : {N : Type 0}
     → Naming N
     → (Activation N → Calls N)
@@ -395,8 +395,8 @@ activate naming enter t ((x, a_procedure code) ∷ rest) args s =
     (λ f. execute_body naming f.env (enter f.env) t (block_statements (procedure_block code.text)))
 activate naming enter t _ args s = stopped Stuck s.output
 
--- Performs a call if `c`, the number of calls that may still be open, isn't 0. The store keeps the
--- call's variables after it returns.
+-- Performs a call, or ends the run with CallBound if `c`, the number of calls that may still be
+-- open, is 0. The store keeps the call's variables after the call returns.
 unfoldable pub call : {N : Type 0} → Naming N → ℕ → ℕ → Activation N → Calls N
 unfolding activate
 call naming zero t env x args s = stopped CallBound s.output

@@ -10,12 +10,12 @@ use Rattle.ob0_tree.specs.Parsed.{IsParsed, Parsed, tree_of}
 use Rattle.ob0_tree.specs.Tree.{Tree, block, body, declares, declares_procedure, end, has_body, is_module, item, items, mapped, maybe, module_text, more, none, procedure}
 use Rattle.ob0_scope_table.specs.OneBody.{closing_name, is_in_body, is_out}
 
--- A way to a body: the procedure that is entered in each block, from the module inwards, by its
--- number counted from 0. The last block's own body is the one to which the way leads.
+-- A way to a body: the numbers of the procedures to enter, from the module inwards. In each block,
+-- procedures are counted from 0. The way leads to the own body of the last block.
 abbrev pub Way : Type 0
 Way = List ℕ
 
--- returns the way in procedures that have one more procedure before them
+-- returns the way to the same body after one more procedure is put before a block's procedures
 abbrev pub later : Way → Way
 later [] = []
 later (k ∷ way) = suc k ∷ way
@@ -116,14 +116,14 @@ abbrev mutual
 abbrev pub closing_at : {N : Type 0} → Way → Tree N module_text → N
 closing_at way (is_module x b closing) = closing_in way closing b
 
--- returns the new index of a token that a change has kept
+-- returns the new index of a token outside the range that a change replaced
 abbrev pub moved : SameTokens → ℕ → ℕ
 moved s i = if nat_lt i s.prefix then i else s.new_suffix + (i - s.old_suffix)
 
 -- Holds if two modules are the same except for the statements of one body, to which `way` leads. In
--- these statements, the tokens from `prefix` up to `old_suffix` are replaced by the new tokens up
--- to `new_suffix`. All other tokens are moved and have the same spellings. The body's first
--- identifier is before the range in both modules, and its block's closing name after it.
+-- these statements, the old tokens from `prefix` up to `old_suffix` are replaced by the new tokens
+-- from `prefix` up to `new_suffix`. All other tokens are moved and have the same spellings. In both
+-- modules, the body's first identifier is before the range, and its block's closing name after it.
 pub record IsBodyReplaced (old new : Parsed) (way : Way) (s : SameTokens) : Type 0 where
   pub old_range : s.prefix ≤ s.old_suffix
   pub new_range : s.prefix ≤ s.new_suffix
