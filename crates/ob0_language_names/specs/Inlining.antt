@@ -102,8 +102,8 @@ inline_in uses v k (has_body ds b) =
     has_body (inline_in uses v k ds) (inline_in uses v (k + length (occurrences ds)) b)
 inline_in uses v k (is_module name b closing) = is_module name (inline_in uses v k b) closing
 
--- returns the module in which the factor `v` replaces each occurrence in the set that is a whole
--- factor
+-- returns the module in which the factor `v` replaces each occurrence in the set `uses` that is a
+-- whole factor
 abbrev pub inlined : Tree Name module_text → Uses → Tree Name factor → Tree Name module_text
 inlined m uses v = inline_in uses v 0 m
 

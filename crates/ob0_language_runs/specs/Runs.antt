@@ -40,12 +40,13 @@ abbrev pub use_in : {A : Type 0} → State → Outcome A → (A → Progress) �
 use_in s (gives a) next = next a
 use_in s (ends e) next = stopped e s.output
 
--- continues a run with a function if it hasn't ended
+-- continues a run with the function `next`; an ended run is unchanged
 abbrev pub continue_with : Progress → (State → Progress) → Progress
 continue_with (running s) next = next s
 continue_with (stopped e out) next = stopped e out
 
--- continues in one of two ways, according to a truth value; any other value is stuck
+-- continues with one of two functions, according to a truth value; any other value ends the run
+-- with Stuck
 abbrev pub choose : State → Value → (State → Progress) → (State → Progress) → Progress
 choose s (truth true) when_true when_false = when_true s
 choose s (truth false) when_true when_false = when_false s
@@ -65,7 +66,8 @@ abbrev pub read_number : State → Place → List ℤ → Progress
 read_number s p [] = stopped InputEnd s.output
 read_number s p (n ∷ rest) = store_at record s { input = rest } p (number n)
 
--- returns the modes in which the arguments of a call are passed; a name that isn't a procedure's is stuck
+-- returns the modes in which the arguments of a call are passed; Stuck for a name that isn't a
+-- procedure's
 abbrev pub modes_of : Option (Object Place (List Mode)) → Outcome (List Mode)
 modes_of (Some (a_procedure modes)) = gives modes
 modes_of (Some (a_standard reads)) = gives (by_place ∷ [])
@@ -263,7 +265,7 @@ declare_variables naming k (more (declares_variable ns u) gs) f =
     (denoted (meanings naming f.env) k u)
 
 -- returns the environment with procedures added, each with the ordinal of its first ARRAY or
--- RECORD; `k` is the ordinal of the first one of all
+-- RECORD; `k` is the ordinal for the first procedure
 abbrev pub declare_procedures : {N : Type 0}
     → ℕ
     → Tree N (items procedure)

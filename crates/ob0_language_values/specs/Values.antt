@@ -68,7 +68,7 @@ abbrev pub or_stuck : {A : Type 0} → Option A → Outcome A
 or_stuck None = ends Stuck
 or_stuck (Some a) = gives a
 
--- returns true if a number fits in 32 bits with a sign
+-- returns true if a number fits in 32 bits as a signed integer
 abbrev pub fits : ℤ → Bool
 fits (pos n) = nat_lt n (2 ^ 31)
 fits (negsuc n) = nat_lt n (2 ^ 31)
@@ -177,7 +177,7 @@ abbrev pub named_member : Members → Name → Option Value
 named_member no_member x = None
 named_member (next_member y v rest) x = if same_name x y then Some v else named_member rest x
 
--- returns the members with the value of the first one with this name replaced by `new`; unchanged
+-- returns the members with the value of the first member of this name replaced by `new`; unchanged
 -- if there is no such member
 abbrev pub with_named_member : Members → Name → Value → Members
 with_named_member no_member x new = no_member
