@@ -56,7 +56,7 @@ choose s _ when_true when_false = stopped Stuck s.output
 abbrev pub append_output : State → Written → State
 append_output s i = record s { output = s.output ++ i ∷ [] }
 
--- stores a value at a place; without such a place the run is stuck
+-- stores a value at a place; ends the run with Stuck if there is no such place
 abbrev pub store_at : State → Place → Value → Progress
 store_at s p v =
     use_in s (or_stuck (write_place s.store p v)) (λ store. running record s { store = store })
@@ -367,7 +367,7 @@ execute_body naming env enter t none s = running s
 execute_body naming env enter t (one (begins statements)) s =
     execute_all (statement_meanings naming env) enter t statements s
 
--- continues a run with a frame and with the frame's store; without a frame the run is stuck
+-- continues a run with a frame and the frame's store; ends the run with Stuck if there is no frame
 abbrev pub in_frame : {N : Type 0}
     → State
     → Option (Frame N)
