@@ -72,7 +72,8 @@ abbrev pub carried_table : BodyRange → List (Option ℕ) → List (Option ℕ)
 carried_table range table =
     padded range.closing (take range.first table) ++ drop range.old_closing table
 
--- returns the old index of a token after the change, given its new index; at most 2^64 - 1
+-- returns the old index of the closing name after the replaced statements, given its new index; at
+-- most 2^64 - 1
 abbrev pub old_place : SameTokens → ℕ → ℕ
 old_place same closing = min (closing - same.new_suffix + same.old_suffix) (2 ^ 64 - 1)
 

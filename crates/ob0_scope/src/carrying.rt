@@ -103,8 +103,8 @@ fn body_inside<'t>(p: &'t Procedure, low: usize) -> ReplacedBody<'t>
     body_in(&p.block, p.closing, low)
 }
 
-/// Returns the old index of a token after the change, given its new index. The result is at most
-/// 2^64 - 1.
+/// Returns the old index of the closing name after the replaced statements, given its new index.
+/// The result is at most 2^64 - 1.
 pub(crate) fn old_place(same: SameTokens, closing: usize) -> usize
     ensures { result ≡ old_place same closing }
 {
