@@ -1,4 +1,5 @@
--- Modules whose fields have other names, both where records declare them and where selectors select them.
+-- Modules with renamed fields. A field is renamed at its declaration in a record and in each
+-- selector that selects it.
 -- Rule: docs/LANGUAGE.md, Scopes 7.
 use Rattle.std.specs.Prelude.{ℕ, suc, ◌+◌, List, [], Some, None, Option, option_and_then, unwrap_or}
 use Rattle.ob0_tree.specs.Tree.{Item, Sort, Tree, adds, array_type, assigns, begins, block, branches, calls, compares, declares, declares_procedure, declares_type, declares_types, declares_variable, declares_variables, designator, else_branch, elsif_branch, end, field, fields, formals, further_fields, further_section, has_body, index, is_module, item, items, maybe, module_text, more, multiplies, named_type, negation, no_fields, no_formals, none, one, parenthesised, procedure, product, record_type, relates, repeat_loop, runs, section, some_arguments, some_fields, some_formals, sum, then_argument, then_fields, then_section, then_statement, type_name, type_names, value_section, variable, variable_section, variables, while_loop, written_type}
@@ -31,9 +32,9 @@ type_after s (field x) = option_and_then (λ t. field_type t x) s
 type_after s (index e) = option_and_then (λ t. element_type t integer_shape) s
 type_after s _ = s
 
--- Returns a part of a statement with its fields under other names. A selected field belongs to the
--- record type before its selector. If the part is a list of selectors, `s` is the type before the
--- first one.
+-- Returns a part of a statement with its fields renamed. A selected field belongs to the record
+-- type before its selector. If the part is a list of selectors, `s` is the type before the first
+-- selector.
 abbrev pub refield : {s : Sort} → FieldNames → Typed Name → Option Shape → Tree Name s → Tree Name s
 refield l meaning s (more t ts) =
     more (refield l meaning s t) (refield l meaning (type_after s t) ts)
@@ -76,11 +77,11 @@ refield l meaning s (else_branch a) = else_branch (refield l meaning None a)
 refield l meaning s (begins a) = begins (refield l meaning None a)
 refield l meaning s t = t
 
--- Returns the text of a type with its declared fields under other names. `k` is the ordinal of the first ARRAY or
--- RECORD of the part, and `r` the ordinal of the group's record. The length of an array is a constant expression and
--- has no selectors.
+-- Returns a written type with its declared fields renamed. `k` is the ordinal of the first ARRAY or
+-- RECORD of the part, and `r` the ordinal of the group's record. The length of an array is
+-- unchanged, because a constant expression has no selectors.
 abbrev mutual
-  -- returns a written type with its fields under other names; `k` is the ordinal of its first ARRAY
+  -- returns a written type with its fields renamed; `k` is the ordinal of its first ARRAY
   -- or RECORD
   pub refield_type : FieldNames → ℕ → Tree Name written_type → Tree Name written_type
   refield_type l k (named_type x) = named_type x
@@ -89,14 +90,14 @@ abbrev mutual
       record_type (refield_group l k (suc k) g)
       (refield_groups l k (suc k + group_constructors g) rest)
 
-  -- returns a group of fields of the record `r`, with these fields and those in their type under
-  -- other names; `k` is the ordinal of the first ARRAY or RECORD in that type
+  -- returns a group of fields of the record `r`, with these fields and the fields in their type
+  -- renamed; `k` is the ordinal of the first ARRAY or RECORD in that type
   pub refield_group : FieldNames → ℕ → ℕ → Tree Name fields → Tree Name fields
   refield_group l r k no_fields = no_fields
   refield_group l r k (some_fields ns t) =
       some_fields (with_names (λ x. x) (l (Some r)) ns) (refield_type l k t)
 
-  -- returns further groups of fields of the record `r`, with all fields under other names; `k` is
+  -- returns further groups of fields of the record `r`, with all fields renamed; `k` is
   -- the ordinal of their first ARRAY or RECORD
   pub refield_groups : FieldNames
       → ℕ
@@ -108,7 +109,7 @@ abbrev mutual
       more (then_fields (refield_group l r k g))
       (refield_groups l r (k + group_constructors g) rest)
 
--- returns declarations of types with their fields under other names; `k` is the ordinal of their
+-- returns declarations of types with their fields renamed; `k` is the ordinal of their
 -- first ARRAY or RECORD
 abbrev pub refield_types : FieldNames
     → ℕ
@@ -118,7 +119,7 @@ refield_types l k end = end
 refield_types l k (more (declares_type x u) ds) =
     more (declares_type x (refield_type l k u)) (refield_types l (k + constructors u) ds)
 
--- returns a TYPE section with its fields under other names; `k` is the ordinal of its first ARRAY
+-- returns a TYPE section with its fields renamed; `k` is the ordinal of its first ARRAY
 -- or RECORD
 abbrev pub refield_type_section : FieldNames
     → ℕ
@@ -127,7 +128,7 @@ abbrev pub refield_type_section : FieldNames
 refield_type_section l k none = none
 refield_type_section l k (one (declares_types ts)) = one (declares_types (refield_types l k ts))
 
--- returns declarations of variables with their fields under other names; `k` is the ordinal of
+-- returns declarations of variables with their fields renamed; `k` is the ordinal of
 -- their first ARRAY or RECORD
 abbrev pub refield_variables : FieldNames
     → ℕ
@@ -137,7 +138,7 @@ refield_variables l k end = end
 refield_variables l k (more (declares_variable ns u) gs) =
     more (declares_variable ns (refield_type l k u)) (refield_variables l (k + constructors u) gs)
 
--- returns a VAR section with its fields under other names; `k` is the ordinal of its first ARRAY or
+-- returns a VAR section with its fields renamed; `k` is the ordinal of its first ARRAY or
 -- RECORD
 abbrev pub refield_variable_section : FieldNames
     → ℕ
@@ -147,13 +148,13 @@ refield_variable_section l k none = none
 refield_variable_section l k (one (declares_variables vs)) =
     one (declares_variables (refield_variables l k vs))
 
--- returns a section of parameters with its fields under other names; `k` is the ordinal of its
+-- returns a section of parameters with its fields renamed; `k` is the ordinal of its
 -- first ARRAY or RECORD
 abbrev pub refield_section : FieldNames → ℕ → Tree Name section → Tree Name section
 refield_section l k (value_section ns u) = value_section ns (refield_type l k u)
 refield_section l k (variable_section ns u) = variable_section ns (refield_type l k u)
 
--- returns further sections of parameters with their fields under other names; `k` is the ordinal of
+-- returns further sections of parameters with their fields renamed; `k` is the ordinal of
 -- their first ARRAY or RECORD
 abbrev pub refield_sections : FieldNames
     → ℕ
@@ -164,7 +165,7 @@ refield_sections l k (more (then_section f) fs) =
     more (then_section (refield_section l k f))
     (refield_sections l (k + constructors (section_type f)) fs)
 
--- returns formal parameters with their fields under other names; `k` is the ordinal of their first
+-- returns formal parameters with their fields renamed; `k` is the ordinal of their first
 -- ARRAY or RECORD
 abbrev pub refield_formals : FieldNames → ℕ → Tree Name (maybe formals) → Tree Name (maybe formals)
 refield_formals l k none = none
@@ -206,10 +207,10 @@ types_after_procedures env k end = env
 types_after_procedures env k (more p rest) =
     types_after_procedures (types_after_heading env k p) (k + procedure_constructors p) rest
 
--- Returns a block with its fields under other names. `k` is the ordinal of the first ARRAY or RECORD of the part.
--- Constants have no fields.
+-- Returns a block with its fields renamed. `k` is the ordinal of the first ARRAY or RECORD of the
+-- part. Constants have no fields.
 abbrev mutual
-  -- returns a block with the fields of its types, variables, procedures and statements under other names
+  -- returns a block with the fields of its types, variables, procedures and statements renamed
   pub refield_block : FieldNames → TypeEnvironment Name → ℕ → Tree Name block → Tree Name block
   refield_block l env k (has_body (declares cs ts vs ps) statements) =
       has_body
@@ -222,7 +223,7 @@ abbrev mutual
       (types_after_variables env k (has_body (declares cs ts vs ps) statements))
       (after_variables k (has_body (declares cs ts vs ps) statements)) ps)) None statements)
 
-  -- returns procedures with their fields under other names; each procedure is visible to the later ones
+  -- returns procedures with their fields renamed; each procedure is visible to the later ones
   pub refield_procedures : FieldNames
       → TypeEnvironment Name
       → ℕ
@@ -234,7 +235,7 @@ abbrev mutual
       p)
       (refield_procedures l (types_after_heading env k p) (k + procedure_constructors p) rest)
 
-  -- returns a procedure with its fields under other names; `env` is the environment of its block,
+  -- returns a procedure with its fields renamed; `env` is the environment of its block,
   -- which has the procedure and its parameters
   pub refield_procedure : FieldNames
       → TypeEnvironment Name
@@ -245,6 +246,6 @@ abbrev mutual
       declares_procedure x (refield_formals l k fs)
       (refield_block l env (after_formals k (declares_procedure x fs b closing)) b) closing
 
--- returns a module with its fields under other names
+-- returns a module with its fields renamed
 abbrev pub refielded : FieldNames → Tree Name module_text → Tree Name module_text
 refielded l (is_module x b closing) = is_module x (refield_block l (outermost as_names) 0 b) closing

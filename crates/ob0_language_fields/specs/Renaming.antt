@@ -11,7 +11,7 @@ use Rattle.ob0_language_types.specs.Declarations.{after_formals, after_types, af
 use Rattle.ob0_language_types.specs.Typing.{constructors, group_constructors}
 use Rattle.ob0_language_fields.specs.Fields.{FieldNames, refielded}
 
--- returns the names that fields have after the field `f` of the record `r` is renamed to `new`
+-- returns the renaming that changes only the field `f` of the record `r`, to the name `new`
 abbrev pub one_renamed : ℕ → Name → Name → FieldNames
 one_renamed r f new owner x = if same_ordinal owner r && same_name x f then new else x
 
@@ -93,7 +93,7 @@ abbrev mutual
 abbrev pub records : Tree Name module_text → List RecordFields
 records m = records_in_block 0 (module_block m)
 
--- returns true if a name in the list other than `f` is the name `new`
+-- returns true if the name `new` is in the list of a record's fields, as a field other than `f`
 abbrev pub names_another_field : List Name → Name → Name → Bool
 names_another_field xs f new = list_any (λ x. same_name x new && not (same_name x f)) xs
 

@@ -1,3 +1,3 @@
-//! Definitions of the fields of a module's records, with the record that each field identifier belongs to, and of
-//! modules whose fields have other names. Lemmas about them.
+//! Definitions of the fields of a module's records, and of modules with renamed fields. Lemmas
+//! about both.
 #![tactic(auto)]

@@ -66,14 +66,15 @@ abbrev pub same_binding : Label → Label → Bool
 same_binding (as_written x) (as_written y) = same_name x y
 same_binding a b = same_label a b
 
--- returns the first position at which two lists of labels differ; None if there is none before the
--- end of one list
+-- returns the first position at which two lists of labels differ; None if they agree up to the end
+-- of the shorter list
 abbrev pub first_difference : List Label → List Label → Option ℕ
 first_difference (a ∷ as₁) (b ∷ bs) =
     if same_binding a b then option_map suc (first_difference as₁ bs) else Some 0
 first_difference _ _ = None
 
--- a conflict of a new name: with another declaration of the block, or at an occurrence
+-- a conflict of a new name: with another declaration of the block, or at the occurrence with this
+-- number, whose binding would change
 pub data Capture : Type 0 where
   at_declaration : Capture
   at_occurrence : ℕ → Capture

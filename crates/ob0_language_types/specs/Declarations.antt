@@ -84,16 +84,17 @@ abbrev mutual
   procedure_constructors (declares_procedure x fs b closing) =
       formals_constructors (formal_sections fs) + block_constructors b
 
--- returns the ordinal of the first ARRAY or RECORD after a block's types; `k` is the ordinal of the first in the block
+-- returns the ordinal of the first ARRAY or RECORD after a block's types; `k` is the ordinal of the
+-- block's first ARRAY or RECORD
 abbrev pub after_types : {N : Type 0} → ℕ → Tree N block → ℕ
 after_types k b = k + types_constructors (block_types b)
 
--- returns the ordinal of the first ARRAY or RECORD after a block's variables; `k` is the ordinal of the first in the
--- block
+-- returns the ordinal of the first ARRAY or RECORD after a block's variables; `k` is the ordinal of
+-- the block's first ARRAY or RECORD
 abbrev pub after_variables : {N : Type 0} → ℕ → Tree N block → ℕ
 after_variables k b = after_types k b + variables_constructors (block_variables b)
 
--- returns the ordinal of the first ARRAY or RECORD after a procedure's formal parameters; `k` is the ordinal of the
--- first in the procedure
+-- returns the ordinal of the first ARRAY or RECORD after a procedure's formal parameters; `k` is the
+-- ordinal of the procedure's first ARRAY or RECORD
 abbrev pub after_formals : {N : Type 0} → ℕ → Tree N (item procedure) → ℕ
 after_formals k p = k + formals_constructors (procedure_formals p)

@@ -28,8 +28,8 @@ IsScalar (truth b) = Unit {0}
 IsScalar (elements vs) = ⊥
 IsScalar (members k ms) = ⊥
 
--- Holds if the word TRUE or FALSE, written in place of an occurrence, means the predeclared
--- constant there. It always holds for a value that isn't a truth value.
+-- Holds if the word of a truth value, TRUE or FALSE, would mean the predeclared constant in place
+-- of an occurrence. Always holds for any other value.
 abbrev pub IsPredeclaredTruth : Tree Name module_text → ℕ → Value → Type 0
 IsPredeclaredTruth m occurrence (truth true) = sees m occurrence (codes "TRUE") ≡ Some 2
 IsPredeclaredTruth m occurrence (truth false) = sees m occurrence (codes "FALSE") ≡ Some 3

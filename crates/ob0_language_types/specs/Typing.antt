@@ -157,13 +157,13 @@ unfoldable mutual
     t ← element_type s i
     type_at meaning t rest
 
--- returns the value of a name that means a constant; None for any other name
+-- returns the value of a constant; None for any other object
 abbrev pub constant_of : {V P : Type 0} → Option (Object V P) → Option Value
 constant_of (Some (a_constant v)) = Some v
 constant_of _ = None
 
--- returns the meanings of names in constant expressions, where only constants have a meaning (rule
--- 6)
+-- returns the meanings of names in constant expressions, in which only constants have a meaning
+-- (rule 6)
 abbrev pub constants_only : {N V P W Q : Type 0} → Meanings N V P → Meanings N W Q
 constants_only meaning =
     record {
@@ -253,7 +253,7 @@ abbrev mutual
   groups_constructors end = 0
   groups_constructors (more (then_fields g) rest) = group_constructors g + groups_constructors rest
 
--- returns the type that the name of a type means; None for any other object
+-- returns the type that a type's name means; None for any other object
 abbrev pub type_of_name : {V P : Type 0} → Option (Object V P) → Option Shape
 type_of_name (Some (a_type s)) = Some s
 type_of_name _ = None

@@ -52,7 +52,8 @@ Signature = List Formal
 abbrev pub Typed : Type 0 → Type 0
 Typed N = Meanings N Shape Signature
 
--- the environments of the checker
+-- the environments of the checker, which bind variables to their types and procedures to their
+-- signatures
 abbrev pub TypeEnvironment : Type 0 → Type 0
 TypeEnvironment N = Environment N Shape Signature
 
@@ -72,7 +73,7 @@ variable_type meaning None = None
 variable_type meaning (Some (x, path)) =
     elim (meaning.object_for x) [ Some (a_variable s) ↦ type_at meaning s path | _ ↦ None ]
 
--- returns the signature of the procedure that a name means; None if it means something else
+-- returns the signature of a procedure or a standard procedure; None for any other object
 abbrev pub signature_of : Option (Object Shape Signature) → Option Signature
 signature_of (Some (a_procedure signature)) = Some signature
 signature_of (Some (a_standard reads)) =

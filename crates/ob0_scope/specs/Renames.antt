@@ -41,8 +41,8 @@ abbrev pub place_of : reported.FirstCapture → Capture
 place_of (reports.Duplicate other) = at_declaration
 place_of (reports.Occurrence k) = at_occurrence k
 
--- returns the ordinal of the other declaration, if a conflict is with another declaration of the
--- block
+-- returns the ordinal of the other declaration if a conflict is with another declaration of the
+-- block, otherwise None
 abbrev pub other_of : Option reported.FirstCapture → Option ℕ
 other_of None = None
 other_of (Some (reports.Duplicate other)) = Some other

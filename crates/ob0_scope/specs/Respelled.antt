@@ -18,7 +18,7 @@ pub record AreNamedAlike (old new : Scanned) : Type 0 where
   pub same_names : names_in new.text new.tokens ≡ names_in old.text old.tokens
 
 -- The bindings of a valid module are also the bindings of its tree over the tokens of another text.
--- Its tokens must have the same kinds, and its identifiers the same spellings.
+-- That text's tokens must have the same kinds, and its identifiers the same spellings.
 abbrev pub BindingsStay : Type 0
 BindingsStay =
     (old new : Scanned) (tree : ModuleTree) (b : Bindings)

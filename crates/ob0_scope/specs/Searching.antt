@@ -44,8 +44,8 @@ last_other s found (i ∷ is) = last_other s (if is_other s i then ordinal_sough
 abbrev pub other_among : BlockSearch → List ℕ → Option ℕ
 other_among s is = if list_any (is_sought s) is then last_other s None is else None
 
--- Returns the declaration that the search finds: in the block itself, otherwise in the blocks
--- inside it.
+-- Returns the ordinal of the declaration that the search finds: in the block itself, otherwise in
+-- the blocks inside it.
 abbrev mutual
   -- returns the result for a block: among its procedure's parameters `own` and its names, otherwise
   -- in the blocks inside it
@@ -54,7 +54,7 @@ abbrev mutual
       option_or (other_among s (own ++ block_names (has_body (declares cs ts vs ps) statements)))
       (found_in_procedures s ps)
 
-  -- returns the result for the first procedure in which one is found
+  -- returns the result for the first procedure in which the search finds a declaration
   pub found_in_procedures : BlockSearch → Tree ℕ (items procedure) → Option ℕ
   found_in_procedures s end = None
   found_in_procedures s (more p rest) =

@@ -1,4 +1,4 @@
-//! Finds conflicts of a new name for a declaration.
+//! Finds the first conflict of a new name for a declaration.
 //!
 //! If no token of the text has the new name, the name is free and no walk is needed. Otherwise
 //! another declaration with that name in the same block is searched for, among the tokens of the
@@ -182,8 +182,9 @@ impl<'t> Sought<'t> {
         text_at(self.tokens, token) == self.new && !self.is_sought(token)
     }
 
-    /// Returns the last declaration that has the sought name, if the declaration whose block is searched is among these
-    /// tokens of a block. Otherwise returns None.
+    /// Returns the ordinal of the last other declaration with the sought name among these tokens of
+    /// a block. Returns None if there is none, or if the declaration whose block is searched isn't
+    /// among them.
     fn among(&self, tokens: &[usize]) -> Option<usize>
         ensures { result ≡ other_among self.now tokens.now }
     {
@@ -198,8 +199,8 @@ impl<'t> Sought<'t> {
         if is_here { found } else { None }
     }
 
-    /// Searches a block and then the blocks inside it. `own` has the tokens of the parameters, which count as declared
-    /// in the block.
+    /// Returns the declaration that the search finds in a block, otherwise in the blocks inside it.
+    /// `own` has the tokens of the parameters, which count as declared in the block.
     #[cycle(blocks)]
     fn block(&self, alloc: Global, own: Vec<usize>, b: &Block) -> Result<Option<usize>, AllocError>
         ensures { IfOk result
@@ -214,7 +215,8 @@ impl<'t> Sought<'t> {
         Ok(found)
     }
 
-    /// Searches the block of a procedure, with its parameters.
+    /// Returns the declaration that the search finds in the block of a procedure, whose parameters
+    /// count as declared in the block.
     #[cycle(blocks)]
     fn procedure(&self, alloc: Global, p: &Procedure) -> Result<Option<usize>, AllocError>
         ensures { IfOk result (λ other. other ≡ found_in_procedure self.now (procedure_of p.now)) }

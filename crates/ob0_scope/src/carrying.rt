@@ -103,7 +103,8 @@ fn body_inside<'t>(p: &'t Procedure, low: usize) -> ReplacedBody<'t>
     body_in(&p.block, p.closing, low)
 }
 
-/// Returns the token that the closing name of a body's block was before the change, at most 2^64 - 1.
+/// Returns the old index of the closing name after the replaced statements, given its new index.
+/// The result is at most 2^64 - 1.
 pub(crate) fn old_place(same: SameTokens, closing: usize) -> usize
     ensures { result ≡ old_place same closing }
 {
@@ -146,8 +147,8 @@ impl BodyRange {
         Ok(())
     }
 
-    /// Returns a list of tokens of the old module. The tokens in the old body are replaced by `own`, the tokens in the
-    /// new body.
+    /// Returns a list of tokens with their new indexes. `own`, the tokens in the new body, replace
+    /// the tokens in the old body.
     pub(crate) fn carry(
         self,
         alloc: Global,
@@ -163,7 +164,8 @@ impl BodyRange {
         Ok(all)
     }
 
-    /// Returns the table of ordinals of the old module, with None at each token of the new body.
+    /// Returns the table of ordinals of the old module with each entry at its token's new index.
+    /// The entries of the new body are None.
     pub(crate) fn carry_table(
         self,
         alloc: Global,

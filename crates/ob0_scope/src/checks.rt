@@ -1,8 +1,7 @@
-//! Reports duplicate declarations and wrong closing names.
+//! Finds the duplicate declarations and wrong closing names of a module.
 //!
-//! In clauses, `Checks` is the list of the faults found so far, to which each check appends its
-//! own. Up to 16 names of a block or record are compared with one another. If there are more, they
-//! are inserted into a set.
+//! `Checks` has the faults found so far, and each check appends its own faults. Up to 16 names of a
+//! block or record are compared with one another. If there are more, they are inserted into a set.
 
 ghost use Rattle.std.specs.Prelude.{◌≡◌, ◌++◌, [], IfOk, OnOk, map, not};
 ghost use Rattle.std.specs.List.{list_any};
@@ -25,10 +24,11 @@ use std::alloc::{AllocError, Global};
 use std::collections::BTreeSet;
 use std::marker::Model;
 
-/// The greatest number of names that are compared with one another instead of using a set.
+/// The greatest number of names that are compared with one another. More names are inserted into a
+/// set.
 const FEW: usize = 16;
 
-/// The faults of declarations that were found so far.
+/// The duplicate declarations and wrong closing names that were found so far.
 #[derive(Drop)]
 struct Checks {
     alloc: Global,
@@ -58,7 +58,7 @@ pub(crate) fn check<'t>(alloc: Global, read: &'t Module<'t>) -> Result<Vec<Fault
 }
 
 /// Returns the duplicate declarations and wrong closing names of a module. `known` must contain such a fault exactly if
-/// the module has one; if it contains none, the module isn't walked.
+/// the module has one. If `known` contains none, the module isn't walked.
 pub(crate) fn check_again<'t>(
     alloc: Global,
     read: &'t Module<'t>,
@@ -122,6 +122,7 @@ fn is_written(tokens: &Tokens, names: &[usize], text: &str) -> bool
     false
 }
 
+/// Appends the tokens of the names in a list.
 fn add_names(out: &mut Vec<usize>, ns: &Names) -> Result<(), AllocError>
     ensures { OnOk result (out.new.items ≡ out.old.items ++ names_listed (names_of ns.now)) }
 {
@@ -132,6 +133,7 @@ fn add_names(out: &mut Vec<usize>, ns: &Names) -> Result<(), AllocError>
     Ok(())
 }
 
+/// Appends the tokens of the names in a group of fields.
 fn add_fields(out: &mut Vec<usize>, group: &Fields) -> Result<(), AllocError>
     ensures { OnOk result (out.new.items ≡ out.old.items ++ group_fields (fields_of group.now)) }
 {
@@ -141,6 +143,7 @@ fn add_fields(out: &mut Vec<usize>, group: &Fields) -> Result<(), AllocError>
     }
 }
 
+/// Appends the tokens of the names that a CONST section declares.
 fn add_constants(out: &mut Vec<usize>, section: &Option<Vec<Constant>>) -> Result<(), AllocError>
     ensures { OnOk result (out.new.items
         ≡ out.old.items ++ constant_names (section_constants (constants_of section.now))) }
@@ -153,6 +156,7 @@ fn add_constants(out: &mut Vec<usize>, section: &Option<Vec<Constant>>) -> Resul
     Ok(())
 }
 
+/// Appends the tokens of the names that a TYPE section declares.
 fn add_types(out: &mut Vec<usize>, section: &Option<Vec<TypeDeclaration>>) -> Result<(), AllocError>
     ensures { OnOk result
         (out.new.items ≡ out.old.items ++ named_types (section_types (types_of section.now))) }
@@ -165,6 +169,7 @@ fn add_types(out: &mut Vec<usize>, section: &Option<Vec<TypeDeclaration>>) -> Re
     Ok(())
 }
 
+/// Appends the tokens of the names that a VAR section declares.
 fn add_variables(out: &mut Vec<usize>, section: &Option<Vec<Variables>>) -> Result<(), AllocError>
     ensures { OnOk result (out.new.items
         ≡ out.old.items ++ variable_names (section_variables (variables_of section.now))) }
@@ -177,6 +182,7 @@ fn add_variables(out: &mut Vec<usize>, section: &Option<Vec<Variables>>) -> Resu
     Ok(())
 }
 
+/// Appends the tokens of the names of formal parameters.
 pub(crate) fn add_formals(
     out: &mut Vec<usize>,
     formals: &Option<Vec<Section>>,
@@ -193,6 +199,7 @@ pub(crate) fn add_formals(
     Ok(())
 }
 
+/// Appends the tokens of the procedures' names.
 fn add_procedures(out: &mut Vec<usize>, procedures: &[Procedure]) -> Result<(), AllocError>
     ensures { OnOk result
         (out.new.items ≡ out.old.items ++ procedure_names (items_of procedure_of procedures.now)) }
@@ -214,6 +221,7 @@ pub(crate) fn add_block(out: &mut Vec<usize>, b: &Block) -> Result<(), AllocErro
 }
 
 impl Checks {
+    /// Returns the faults found so far.
     fn into_faults(self) -> Vec<Fault>
         ensures { result.items ≡ self }
     {
@@ -317,6 +325,7 @@ impl Checks {
         }
     }
 
+    /// Reports the duplicate fields of the records in a TYPE section.
     fn types(
         &mut self,
         tokens: &Tokens,
@@ -333,6 +342,7 @@ impl Checks {
         Ok(())
     }
 
+    /// Reports the duplicate fields of the records in the types of a VAR section.
     fn variables(
         &mut self,
         tokens: &Tokens,
@@ -350,6 +360,7 @@ impl Checks {
         Ok(())
     }
 
+    /// Reports the duplicate fields of the records in the types of formal parameters.
     fn formals(&mut self, tokens: &Tokens, formals: &Option<Vec<Section>>) -> Result<(), AllocError>
         ensures { OnOk result (self.new
             ≡ self.old ++ formals_twice tokens.now (formal_sections (formals_of formals.now))) }

@@ -22,7 +22,7 @@ pub record AreWrittenAlike (old new : Scanned) : Type 0 where
   pub same_words : words_in new.text new.tokens ≡ words_in old.text old.tokens
   pub same_front : (first_start new == 0) ≡ (first_start old == 0)
 
--- returns the fault from the start of one token to the end of another
+-- returns a fault with its span, from the start of its first token to the end of its last token
 abbrev pub fault_at : Scanned → FaultAt → Fault
 fault_at source f =
     record {

@@ -1,5 +1,5 @@
--- A change of tokens inside the statements of one block: its place, and the tokens outside, which
--- stay the same.
+-- A change of tokens inside the statements of one block. The tokens outside its place are
+-- unchanged.
 -- Rule: none; for contracts: what stays where the tokens of one body are written otherwise.
 use Rattle.std.specs.Prelude.{◌≡◌, ℕ, Bool, true, false, ◌&&◌, ◌||◌, nat_le, nat_lt, List, [], ◌∷◌, if◌then◌else◌, slice_get}
 use Rattle.ob0_scan.specs.Reused.{kinds, words_in}
@@ -9,7 +9,8 @@ use Rattle.ob0_tree.specs.Tree.{Tree, block, body, declares, declares_procedure,
 use Rattle.ob0_tree.specs.declared.tree.Role.{Role}
 use Rattle.ob0_tree.specs.declared.tree.Role.TheVariants as role
 
--- returns true for a token before `low`, or at or after `high`
+-- returns true for a token outside the range from `low` up to `high`: before `low`, or not before
+-- `high`
 abbrev pub is_out : ℕ → ℕ → ℕ → Bool
 is_out low high token = nat_lt token low || nat_le high token
 
@@ -50,8 +51,9 @@ abbrev mutual
 abbrev pub is_in_body : ℕ → ℕ → Tree ℕ module_text → Bool
 is_in_body low high (is_module x b closing) = nat_le high closing && is_in_block low high b
 
--- Holds if a module has changed tokens. Their kinds are the same as in `old`. Their spellings are
--- also the same, except in the range from `low` up to `high`, which is inside one body.
+-- Holds if the tokens of a module and of the text `old` have the same kinds, one by one. Their
+-- spellings are also the same, except in the range from `low` up to `high`. This range is inside
+-- one body.
 pub record IsBodyChange (old : Scanned) (m : Parsed) (low high : ℕ) : Type 0 where
   pub old_scan : IsScan old
   pub new_scan : IsScan m.source

@@ -50,12 +50,12 @@ abbrev pub is_unbound : Label → Bool
 is_unbound (declared k) = false
 is_unbound (as_written x) = true
 
--- returns true for a duplicate declaration or a wrong closing name
+-- returns true for the fault of a duplicate declaration or a wrong closing name
 abbrev pub is_of_declarations : Fault → Bool
 is_of_declarations fault =
     elim (fault.code) [ code.Duplicate ↦ true | code.EndName ↦ true | _ ↦ false ]
 
--- returns true for an undeclared name
+-- returns true for the fault of an undeclared name
 abbrev pub is_of_occurrences : Fault → Bool
 is_of_occurrences fault = elim (fault.code) [ code.Undeclared ↦ true | _ ↦ false ]
 
@@ -103,8 +103,8 @@ IsBinding m ordinals =
     relabelled as_names with_ordinal (named_tree_of m)
     ≡ mapped (bound_at m.source ordinals) (value_at m.source) (tree_of m)
 
--- returns a fault `Undeclared` for each of these occurrences that is unbound by its label in the
--- second list
+-- returns a fault `Undeclared` for each of these occurrences whose label, at the same place of the
+-- second list, means an unbound name
 abbrev pub unbound_at : Scanned → List ℕ → List Label → List Fault
 unbound_at source [] labels = []
 unbound_at source (token ∷ tokens) [] = []
@@ -114,7 +114,7 @@ unbound_at source (token ∷ tokens) (label ∷ labels) =
     ∷ unbound_at source tokens labels
     else unbound_at source tokens labels
 
--- returns the undeclared names of a module, in text order
+-- returns the faults of the undeclared names of a module, in text order
 abbrev pub unbound_in : Parsed → List Fault
 unbound_in m = unbound_at m.source (occurrences (tree_of m)) (bindings (named_tree_of m))
 
