@@ -11,8 +11,9 @@ use Rattle.ob0_language_names.specs.Names.{Name, as_names}
 use Rattle.ob0_language_names.specs.Parts.{names_listed}
 use Rattle.ob0_language_names.specs.Scopes.{Scope, declare_names, ordinal_of, predeclared_count}
 
--- The state of the walk: the spellings of identifiers, the visible names, the declaring tokens, the
--- tokens of the occurrences, and the ordinals of the identifiers so far.
+-- The state of the walk. It has the spellings of all identifiers and the visible names. It also has
+-- the declaring tokens, the tokens of the occurrences and the ordinals of the identifiers that were
+-- visited.
 pub record Visit (M : Type 0) : Type 0 where
   pub writing : Writing
   pub scope : Scope Name
