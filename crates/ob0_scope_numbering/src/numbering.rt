@@ -46,8 +46,8 @@ use ob0_tree::{
 use std::alloc::{AllocError, Global};
 use std::marker::Model;
 
-/// The state of the walk inside a module. The table has the ordinal of each identifier so far at
-/// its token.
+/// The state of the walk inside a module. The table has, at its token, the ordinal of each
+/// identifier visited so far.
 #[derive(Drop)]
 pub struct Numbering<'t> {
     tokens: &'t Tokens,
@@ -401,7 +401,8 @@ impl<'t> Numbering<'t> {
         Ok(())
     }
 
-    /// Visits the parameters of a heading. They are visible to the later sections.
+    /// Visits the parameters of a heading. The parameters of each section are visible to the later
+    /// sections.
     fn heading(&mut self, formals: &Option<Vec<Section>>) -> Result<(), AllocError>
         ensures { OnOk result (self.new ≡ visit_formals (formals_of formals.now) self.old) }
     {
@@ -468,7 +469,7 @@ impl<'t> Numbering<'t> {
         Ok(())
     }
 
-    /// Makes the name of the next declaration visible, and skips the declaration itself.
+    /// Makes the name at a token visible with the next ordinal, and skips the declaration itself.
     fn pass_over(&mut self, token: usize) -> Result<(), AllocError>
         ensures { OnOk result (self.new ≡ passed_over token self.old) }
     {
