@@ -39,7 +39,7 @@ pub record VisibleNames : Type 0 where
 abbrev pub with_scope : VisibleNames → Scope Name → VisibleNames
 with_scope v scope = record { new_name = v.new_name; scope = scope }
 
--- holds if each binding has the position of its name
+-- holds if each binding has the position of its name in the list `newest`
 abbrev pub ArePlaced : List BoundName → List Binding → Type 0
 ArePlaced newest [] = Unit {0}
 ArePlaced newest (b ∷ bs) =

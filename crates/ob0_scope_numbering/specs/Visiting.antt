@@ -11,8 +11,9 @@ use Rattle.ob0_language_names.specs.Names.{Name, as_names}
 use Rattle.ob0_language_names.specs.Parts.{names_listed}
 use Rattle.ob0_language_names.specs.Scopes.{Scope, declare_names, ordinal_of, predeclared_count}
 
--- The state of the walk: the spellings of identifiers, the visible names, the declaring tokens, the
--- tokens of the occurrences, and the ordinals of the identifiers so far.
+-- The state of the walk. It has the spellings of all identifiers and the visible names. It also has
+-- the declaring tokens, the tokens of the occurrences and the ordinals of the identifiers that were
+-- visited.
 pub record Visit (M : Type 0) : Type 0 where
   pub writing : Writing
   pub scope : Scope Name
@@ -37,8 +38,8 @@ abbrev pub left_to : {M : Type 0} → ℕ → Visit M → Visit M
 left_to len v = record v { scope = drop (length v.scope - len) v.scope }
 
 -- Returns the state after the heading of a procedure. `own` is the number of declarations before
--- the procedure, and `outside` the number of bindings. The parameters' bindings are replaced by
--- bindings of the procedure and then of its parameters.
+-- the procedure, and `outside` the number of bindings. The bindings of the parameters are removed.
+-- Then the procedure and its parameters are bound, in this order.
 abbrev pub after_heading : {M : Type 0} → ℕ → ℕ → Visit M → Visit M
 after_heading own outside v = visible_from own (left_to outside v)
 
@@ -47,7 +48,7 @@ after_heading own outside v = visible_from own (left_to outside v)
 abbrev pub leave_block : {M : Type 0} → ℕ → ℕ → ℕ → Visit M → Visit M
 leave_block x ordinal outside v = visible x ordinal (left_to outside v)
 
--- Definitions in which `put` adds an identifier's ordinal to the others.
+-- The following definitions are for any `put`, which adds an identifier's ordinal to the others.
 module _ {M : Type 0} (put : ℕ → Option ℕ → M → M) where
   -- gives an identifier this ordinal
   abbrev pub marked : ℕ → Option ℕ → Visit M → Visit M

@@ -18,7 +18,8 @@ name_meant n = record { token = n.token; means = Name n.ordinal }
 abbrev pub field_meant : FieldName → Identified
 field_meant x = record { token = x.token; means = Field x.owner }
 
--- returns the meaning of the name if there is one, otherwise the meaning of the field
+-- returns the identifier of the name with its meaning if there is a name, otherwise the identifier
+-- of the field with its meaning
 abbrev pub meant_by : Option named.Named → Option FieldName → Option Identified
 meant_by (Some n) f = Some (name_meant n)
 meant_by None f = option_map field_meant f

@@ -22,11 +22,11 @@ pub record OneBody : Type 0 where
 abbrev pub body_seen : Body → OneBody
 body_seen b = record { closing = b.closing; statements = body_of b.statements.now }
 
--- Returns the body that contains the tokens from index `low` upwards, if these tokens lie in one
--- body. Otherwise the result is some body of the module.
+-- Returns the body that contains a range of tokens, which starts at index `low`. If the range isn't
+-- in one body, the result is some body of the module.
 abbrev mutual
-  -- returns the body of a block with closing name `own`, or of a procedure in that block; the
-  -- tokens from index `low` upwards decide which
+  -- returns the body of a block with closing name `own`, or of a procedure in that block; the token
+  -- index `low` decides which
   pub body_in_block : ℕ → ℕ → Tree ℕ block → OneBody
   body_in_block low own (has_body (declares cs ts vs ps) statements) =
       body_among low own ps statements
@@ -41,13 +41,12 @@ abbrev mutual
       then body_among low own ps statements
       else body_in_procedure low p
 
-  -- returns the body of the procedure, or of a procedure inside it; the tokens from index `low`
-  -- upwards decide which
+  -- returns the body of the procedure, or of a procedure inside it; the token index `low` decides
+  -- which
   pub body_in_procedure : ℕ → Tree ℕ (item procedure) → OneBody
   body_in_procedure low (declares_procedure x fs b closing) = body_in_block low closing b
 
--- returns the body of the module, or of a procedure inside it; the tokens from index `low` upwards
--- decide which
+-- returns the body of the module, or of a procedure inside it; the token index `low` decides which
 abbrev pub body_in_module : ℕ → Tree ℕ module_text → OneBody
 body_in_module low (is_module x b closing) = body_in_block low closing b
 

@@ -4,9 +4,10 @@
 //! bindings. A `Checked` joins this result to the bindings. `check` makes a `Checked` that owns the result.
 //! `Checked::from_parts` makes one from a result that is kept elsewhere, without allocating.
 //!
-//! Faults are sorted by (start, end, code). The lists of fields are made only for a well-typed module (`known_fields`).
-//! If one body changed, they are made from the lists of the previous text (`fields_again`). The invariant of `Checked`
-//! states that they are the module's fields if it has no fault. So the value of a `Checked` doesn't contain them.
+//! Faults are sorted by (start, end, code). The lists of fields are made only for a well-typed
+//! module (`known_fields`). If one body changed, they are made from the lists of the previous text
+//! (`fields_again`). The invariant of `Checked` states that they are the module's fields if it has
+//! no fault. So the view of a `Checked` doesn't contain them.
 
 ghost use Rattle.ob0_scope_table.specs.Resolution.{is_of_declarations};
 ghost use Rattle.ob0_types.specs.CheckedModules.{AreFieldsWhereTyped, AreTypesOf, IsChecked, IsKnownWhereTyped, checked_by};
@@ -30,8 +31,9 @@ use std::alloc::{AllocError, Global};
 use std::borrow::Cow;
 use std::marker::Model;
 
-/// The greatest number of faulty bodies of the text before for which only some bodies are checked again. If there are
-/// more, all bodies are, because searching a longer list for each body would take as many steps.
+/// The greatest number of faulty bodies in the previous text for which only some bodies are checked
+/// again. If there are more, all bodies are checked, because searching a longer list for each body
+/// would cost as much.
 const MOST_FAULTY: usize = 32;
 
 /// The result of checking a module. If the module is well-typed, `known` has its declarations and `fields` its fields.

@@ -1,4 +1,5 @@
--- Agreement between the checker's facts at a place and the names and types according to the definitions.
+-- States when the checker's facts at a place agree with the names and types according to the
+-- definitions.
 -- Rule: none; for laws: what is known against what names and types are.
 use Rattle.std.specs.Prelude.{◌≡◌, ℕ, Bool, true, false, List, [], ◌∷◌, ◌++◌, Option, Some, None, option_map, option_and_then, is_some, slice_get}
 use Rattle.ob0_language_names.specs.Names.{Name}

@@ -67,7 +67,7 @@ reported_variables p (more g rest) = do
   q ← variables_declared p g
   reported_variables q rest
 
--- the parameters of a heading so far, and the state after them
+-- the parameters of a heading found so far, and the state after them
 pub record KnownHeading : Type 0 where
   pub formals : List (KnownFormal TypeId)
   pub following : SoFar

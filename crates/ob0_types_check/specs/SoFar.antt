@@ -51,12 +51,12 @@ same_type (type.Array i) (type.Array j) = i == j
 same_type (type.Record i) (type.Record j) = i == j
 same_type _ _ = false
 
--- returns the element type in an array's parts; unknown for the parts of a record
+-- returns the type of an array's elements, given its parts; for a record's parts, the unknown type
 abbrev pub elements_in : PartTypes → TypeId
 elements_in (of_elements n t) = t
 elements_in (of_fields fields) = type.Unknown
 
--- returns the type of an array's elements; unknown if there is no array
+-- returns the type of an array's elements; the unknown type if there is no array
 abbrev pub elements_at : Option MadeType → TypeId
 elements_at None = type.Unknown
 elements_at (Some m) = elements_in m.parts
@@ -134,11 +134,11 @@ define_all p m (x ∷ xs) = define_all (define p m x) m xs
 abbrev pub one_scalar : Size
 one_scalar = record { scalars = 1; depth = 0 }
 
--- returns the size of an unknown type, or of no parts
+-- returns the size of an unknown type, which is also the size of no fields
 abbrev pub no_scalar : Size
 no_scalar = record { scalars = 0; depth = 0 }
 
--- returns the size of an array or record in the list; a missing one counts as one scalar
+-- returns the size of an array or record; for None, the size of one scalar
 abbrev pub size_made : Option MadeType → Size
 size_made None = one_scalar
 size_made (Some m) = m.size

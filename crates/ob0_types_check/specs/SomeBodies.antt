@@ -28,8 +28,9 @@ abbrev pub with_faulty : List Fault → ℕ → List ℕ → List ℕ
 with_faulty [] own faulty = faulty
 with_faulty (fault ∷ faults) own faulty = faulty ++ own ∷ []
 
--- If the Bool is true, reports the faults of a body. If there are any, appends its block's closing
--- name `own` to the faulty ones. Otherwise reports nothing and changes nothing.
+-- If the Bool is true, returns the faults of a body. If there are any, appends `own`, the closing
+-- name of the body's block, to the faulty bodies. If the Bool is false, returns no fault and
+-- changes nothing.
 abbrev pub body_if : Bool → ℕ → Walked → Tree ℕ (maybe body) → Reported Walked
 body_if false own w statements = right w
 body_if true own w statements =
@@ -78,7 +79,7 @@ module_with wanted r =
     block_with wanted r.module_read.closing (record { so_far = at_first r; faulty = [] })
     (module_block (tree_of r.module_read))
 
--- the test that every closing name passes
+-- returns true for every closing name
 abbrev pub every : ℕ → Bool
 every closing = true
 
@@ -99,8 +100,8 @@ AllPass test (closing ∷ others) = (test closing ≡ true) × AllPass test othe
 abbrev pub wants : Wanted → ℕ → Bool
 wants w closing = w.every || is_among w.these.now closing
 
--- Holds if the module has an older version whose faulty bodies are all wanted. Except in the
--- statements of wanted bodies, both versions are alike.
+-- Holds if the module has an older version whose faulty bodies are all wanted, and both versions
+-- are alike except in the statements of wanted bodies.
 pub record WereFaulty (wanted : ℕ → Bool) (r : Resolution) : Type 0 where
   pub old : Resolution
   pub resolved : IsResolution old
@@ -117,7 +118,7 @@ SomeBodiesReported =
     → module_with wanted r ≡ module_with every r
 
 -- Holds if a report has the faults of the module `r` and the closing names of its bodies with
--- faults. Exactly if there are no faults, it has the objects of all declarations.
+-- faults. It has the objects of all declarations exactly if there are no faults.
 pub record IsReportOf (r : Resolution) (report : Report) : Type 0 where
   pub faults : report.faults.items ≡ reported_module r
   pub known : MatchOption report.known (reported_module r ≡ [] → ⊥)

@@ -32,7 +32,8 @@ target_by_meaning facts token (Some (a_procedure fs)) =
     record { known = facts.types.unknown; faults = at_token facts code.WrongKind token }
 target_by_meaning facts token None = right facts.types.unknown
 
--- returns the type of the name at a token that is assigned to, and its fault
+-- returns the type of the assigned name at a token, with its fault if it isn't a variable's or
+-- parameter's
 abbrev pub target_meaning : {T : Type 0} → Facts T → ℕ → Reported T
 target_meaning facts token = target_by_meaning facts token (facts.object_for token)
 

@@ -152,7 +152,8 @@ pub record Gathers
   pub reported : after ≡ before ++ t.faults
   pub now : IsGathered t.known s gathered
 
--- returns the object of a declaration in the code's table; a faulty constant has no value
+-- returns the object of a declaration in the code's table; a constant without a value becomes
+-- `FaultyConstant`
 abbrev pub table_object : meaning.Meaning → object.Object
 table_object (declared.Named t) = kind.Named t
 table_object (declared.Constant (Some v)) = kind.Constant v

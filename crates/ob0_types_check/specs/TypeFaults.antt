@@ -26,8 +26,8 @@ type_meant facts token None = right facts.types.unknown
 abbrev pub type_named : {T : Type 0} → Facts T → ℕ → Reported T
 type_named facts token = type_meant facts token (facts.object_for token)
 
--- returns the value of a constant expression with the operand `o`; reports `ConstFault` at the
--- whole expression for None
+-- returns the value of a constant expression if there is one; for None, reports `ConstFault` at the
+-- operand `o`
 abbrev pub valued : {T : Type 0} → Facts T → Operand T → Option Value → Reported (Option Value)
 valued facts o None = record { known = None; faults = at_operand facts code.ConstFault o }
 valued facts o (Some v) = right (Some v)
@@ -46,8 +46,8 @@ unfoldable pub reported_constant : {T : Type 0}
 unfolding reported_expression
 reported_constant facts e = reported_expression facts e >>= operand_value facts
 
--- returns the length of an array; for None, `ArrayLength` is reported, because the length isn't
--- from 1 to 65,536
+-- returns the length of an array if there is one; for None, reports `ArrayLength` at the operand
+-- `o`
 abbrev pub in_bounds : {T : Type 0} → Facts T → Operand T → Option ℕ → Reported (Option ℕ)
 in_bounds facts o None = record { known = None; faults = at_operand facts code.ArrayLength o }
 in_bounds facts o (Some n) = right (Some n)

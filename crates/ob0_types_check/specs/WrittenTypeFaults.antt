@@ -39,7 +39,6 @@ pub record Gathered : Type 0 where
   pub following : SoFar
 
 -- returns the state before the first field of a record, with no fields and no scalars
--- returns the state with no fields yet
 abbrev pub nothing_gathered : SoFar → Gathered
 nothing_gathered p = record { fields = []; size = no_scalar; following = p }
 
@@ -48,8 +47,7 @@ abbrev pub beside : Size → Size → Size
 beside z w = record { scalars = z.scalars + w.scalars; depth = max z.depth w.depth }
 
 -- Returns the fields so far with one more field of this type added, whose name is at the token. The
--- size of its type is added to the size.
--- adds a field with this type
+-- size of its type is added to the total size.
 abbrev pub with_name : TypeId → Gathered → ℕ → Gathered
 with_name t g token =
     record {
@@ -59,14 +57,12 @@ with_name t g token =
     }
 
 -- Returns the fields so far with a field of this type added for each of these name tokens.
--- adds a field with this type for each of these names
 abbrev pub with_field_names : TypeId → Gathered → List ℕ → Gathered
 with_field_names t g [] = g
 with_field_names t g (x ∷ xs) = with_field_names t (with_name t g x) xs
 
--- Returns the fields so far with the fields of one group added, given the group's name tokens, and
--- its type with the state after it.
--- adds the fields of one group, with the type that was read
+-- Returns the fields so far with the fields of one group added. The arguments are the fields so
+-- far, the group's name tokens, and the group's type with the state after it.
 abbrev pub gathered_after : Gathered → List ℕ → TypedAfter → Gathered
 gathered_after g xs t =
     with_field_names t.of (record { fields = g.fields; size = g.size; following = t.following }) xs
@@ -80,22 +76,20 @@ abbrev pub first_name : Tree ℕ names → ℕ
 first_name (listed x rest) = x
 
 -- Returns the token before a group of fields, which is RECORD or a semicolon. `following` is the
--- token between this group and the next one, and only matters if the group is empty.
--- returns the token before a group of fields; `following` is the token before the next group
+-- token between this group and the next one. It is used only if the group is empty.
 abbrev pub word_before : Tree ℕ fields → ℕ → ℕ
 word_before (some_fields ns t) following = token_before (first_name ns)
 word_before no_fields following = token_before following
 
--- Returns the token of the word RECORD. It precedes the first field's name and one semicolon for each group without
--- fields before that name. For a record without fields the result is 0. This is never reported, because such a record
--- is never too large.
+-- Returns the token of the word RECORD. Between this token and the first field's name there are
+-- only semicolons, one for each group without fields before that name. For a record without fields
+-- the result is 0, but nothing is reported there, because such a record is never too large.
 abbrev pub record_word : Tree ℕ (items further_fields) → ℕ
 record_word end = 0
 record_word (more (then_fields g) rest) = word_before g (record_word rest)
 
 -- Makes a record type of the gathered fields, or reports `TypeTooLarge` at the token RECORD
 -- (`word`). `ordinal` is the ordinal of that word.
--- makes a new record type, or reports `TypeTooLarge`
 abbrev pub record_made : ℕ → ℕ → Gathered → Reported TypedAfter
 record_made word ordinal g = make g.following word ordinal (of_fields g.fields) (record_size g.size)
 

@@ -101,8 +101,8 @@ impl<'t> Reporter<'t> {
         self.block(faulty, wanted, &p.block, p.closing)
     }
 
-    /// If `wanted`, reports the faults of a body, and appends `own`, its block's closing name, to `faulty` if it has
-    /// any.
+    /// If `wanted` is true, reports the faults of a body. If the body has a fault, also appends
+    /// `own`, the closing name of the body's block, to `faulty`.
     fn body_if(
         &mut self,
         faulty: &mut Vec<usize>,

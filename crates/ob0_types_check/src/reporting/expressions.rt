@@ -58,8 +58,9 @@ fn required_by_multiply(operator: MultiplyOperator) -> TypeId
     }
 }
 
-/// Returns the type that a relation requires of both operands. `=` and `#` compare two numbers or two truth values. If
-/// the left operand's type is unknown, they require nothing of the right operand.
+/// Returns the type that a relation requires of both operands. `=` and `#` compare two numbers or
+/// two truth values. If the left operand's type is unknown, `=` and `#` require nothing of the
+/// right operand.
 fn required_by_relation(relation: Relation, left: TypeId) -> TypeId
     ensures { result ≡ required_by_relation (known_types []) relation left }
 {
@@ -504,8 +505,8 @@ impl<'t> Supposed<'t> {
         Ok(so_far)
     }
 
-    /// Returns the operand of a designator with one more selector, and reports this selector's faults. `base` is the
-    /// operand before it.
+    /// Returns the operand of a designator with one more selector, and reports this selector's
+    /// faults. `base` is the operand of the designator without this selector.
     #[cycle(expressions)]
     fn select(
         &self,

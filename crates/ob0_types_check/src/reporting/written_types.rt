@@ -23,7 +23,8 @@ use ob0_tree::{ArrayType, FieldGroup, Fields, Names, RecordType, WrittenType};
 use ob0_types_table::{ArrayShape, Field, FieldTable, MAX_SCALARS, RecordShape, TypeEntry, TypeId};
 use std::alloc::{AllocError, Global};
 
-/// Returns a number from 1 to 65,536 as an array's length. Returns None for any other value.
+/// Returns the length of an array whose length expression has this value. Returns None unless the
+/// value is a number from 1 to 65,536.
 fn array_length(value: Scalar) -> Option<usize>
     ensures { result ≡ array_length (scalar_value value) }
 {
@@ -74,8 +75,9 @@ impl Gathered {
     }
 }
 
-/// Returns the token of the word RECORD. It precedes the first field's name and one semicolon for each group without
-/// fields before that name.
+/// Returns the token of the word RECORD. Between this token and the first field's name there are
+/// only semicolons, one for each group without fields before that name. Returns 0 if the record has
+/// no fields.
 fn record_word(groups: &[Fields]) -> usize
     ensures { result ≡ record_word (items_of further_fields_of_group groups.now) }
 {
