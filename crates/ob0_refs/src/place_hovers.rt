@@ -1,4 +1,4 @@
-//! Finds the hover text at a place, which shows the name or field that the identifier there refers to.
+//! Makes the hover text at a place. It shows the name or field that the identifier there refers to.
 
 ghost use Rattle.std.specs.Prelude.{◌≡◌, IfOk, option_map};
 ghost use Rattle.ob0_refs.specs.Parts.{hover_in};

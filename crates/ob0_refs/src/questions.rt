@@ -1,9 +1,13 @@
 //! Answers questions about the name or the field at a place.
 //!
-//! Each question, and also the hover text (`place_hovers`), is a match on the meaning of the identifier at the place
-//! (`meant_at` of `ob0_types`). Renaming uses the same meaning, so it renames the name or field of these answers. The
-//! references to a field are the identifiers that its renaming changes. References to a name take one pass over the
-//! table of ordinals, starting at the declaring token. References to a field take one pass over the module's fields.
+//! Each public function finds the meaning of the identifier at the place (`meant_at` of
+//! `ob0_types`) and has one case for a name and one for a field. The hover text does the same
+//! (`place_hovers`). Renaming also uses this meaning, so it renames the name or field of these
+//! answers.
+//!
+//! The references to a field are the identifiers that its renaming changes. References to a name
+//! take one pass over the table of ordinals, starting at the declaring token. References to a field
+//! take one pass over the module's fields.
 
 ghost use Rattle.std.specs.Prelude.{◌≡◌, IfOk, Some};
 ghost use Rattle.ob0_refs.specs.Questions.{AreReferencesAt, at_field, at_meant, declared_meant, definition_at, field_declared, field_named, field_references, index_of, identified_at, named_meant, other_tokens, renamable_at, renamable_meant};
@@ -184,7 +188,8 @@ fn field_named(
     Ok(spans)
 }
 
-/// Returns the tokens of a field, in text order. The declaring token is among them if `include` is true.
+/// Returns the tokens of a field's identifiers, in text order. The declaring token is among them if
+/// `include` is true.
 fn field_references(
     alloc: Global,
     well_typed: &WellTyped<'_>,
