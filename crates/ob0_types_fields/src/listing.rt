@@ -234,8 +234,8 @@ fn place_now(token: usize, same: SameTokens) -> usize
     }
 }
 
-/// Returns the old index of a token that lies after the changed tokens, given its new index. The result is at most 2^64
-/// - 1.
+/// Returns the old index of a token that lies after the changed tokens, given its new index. The
+/// result is at most 2^64 - 1.
 fn place_before(token: usize, same: SameTokens) -> usize
     ensures { result ≡ place_before same token }
 {
