@@ -16,7 +16,7 @@
 //! - All tokens have the same kinds as before, and the old text has a tree: the tree is kept. It
 //!   consists of token indexes, so it also spells the new tokens (`tree_stays` of `ob0_parse`).
 //!   Bindings are kept if the identifiers have the same spelling and no name has a fault. If the
-//!   tokens that may differ in spelling lie in one body, only that body's names are bound again, and
+//!   tokens that may differ in spelling lie in one body, only the names there are bound again, and
 //!   the types outside it are reused (`one_body.rt`). Otherwise all names are bound and all types
 //!   are checked again.
 //! - All tokens have the same kinds as before, and the parser refused the old text: the refusal is

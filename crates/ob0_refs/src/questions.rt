@@ -61,7 +61,8 @@ fn at_field(well_typed: &WellTyped<'_>, field: FieldName) -> At
     }
 }
 
-/// Returns the index of a field among the fields of its record, or 0 if it isn't found.
+/// Returns the index of the field that an identifier belongs to among the fields of its record, or
+/// 0 if the field isn't found.
 fn index_of(well_typed: &WellTyped<'_>, field: FieldName) -> usize
     ensures { result ≡ index_of well_typed.now.module_read field }
 {
@@ -125,7 +126,8 @@ fn declared_meant(well_typed: &WellTyped<'_>, found: Identified) -> Option<Span>
     }
 }
 
-/// Returns the span of the identifier that declares a field, or None if it isn't found.
+/// Returns the span of the identifier that declares the field of an identifier, or None if it isn't
+/// found.
 fn field_declared(well_typed: &WellTyped<'_>, field: FieldName) -> Option<Span>
     ensures { result ≡ field_declared well_typed.now.module_read field }
 {
@@ -172,8 +174,8 @@ fn named_meant(
     }
 }
 
-/// Returns the spans of a field's identifiers, in text order. The declaring identifier is among them if `include` is
-/// true.
+/// Returns the spans of the identifiers of the field that `field` belongs to, in text order. The
+/// declaring identifier is among them if `include` is true.
 fn field_named(
     alloc: Global,
     well_typed: &WellTyped<'_>,
@@ -209,7 +211,7 @@ fn field_references(
     Ok(uses)
 }
 
-/// Returns the list `tokens` without `token`, or all of it if `token` is None.
+/// Returns the list `tokens` without `token`, or the whole list if `token` is None.
 fn without(
     alloc: Global,
     token: Option<usize>,

@@ -96,7 +96,7 @@ typed_field_by objects r x =
 abbrev pub typed_field : Resolution → FieldName → Option TypedField
 typed_field r x = typed_field_by (declared_object (named_tree_of r.module_read)) r x
 
--- For each field identifier of a well-typed module, the search finds the field and its type.
+-- For each field identifier of a well-typed module, the field and its type are found.
 abbrev pub FieldsTyped : Type 0
 FieldsTyped =
     (r : Resolution) → IsResolution r → WellTyped (named_tree_of r.module_read)

@@ -43,13 +43,13 @@ pub fn fields_declared()
     ensures { FieldsDeclared }
 {}
 
-/// Proves that the fields of a well-typed module are exactly the identifiers that the grammar has in the places of
-/// fields, in text order.
+/// Proves that the field identifiers of a well-typed module are exactly the identifiers that have
+/// the role of a field name by the grammar, in text order.
 pub fn fields_listed()
     ensures { FieldsListed }
 {}
 
-/// Proves that for each field identifier of a well-typed module, the search finds the field and its type.
+/// Proves that for each field identifier of a well-typed module, the field and its type are found.
 pub fn fields_typed()
     ensures { FieldsTyped }
 {}

@@ -42,7 +42,7 @@ use ob0_types_table::DeclarationTable;
 use std::alloc::{AllocError, Global};
 use std::marker::Model;
 
-/// The identifiers of fields in a module, in text order: the declaring identifiers, and all identifiers.
+/// The field identifiers of a module, in text order: those that declare a field, and all of them.
 #[derive(Drop)]
 pub struct FieldList {
     declared: FieldTokens,

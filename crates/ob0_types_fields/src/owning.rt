@@ -1,5 +1,5 @@
-//! Walks a module to find its fields: the identifiers that declare them in records, and the identifiers that select
-//! them.
+//! Walks a module to collect its field identifiers: those that declare a field in a record, and
+//! those that select one.
 //!
 //! One loop visits the selectors of a designator, from left to right, and carries the type of the
 //! designator so far. It also visits the expressions of indexes, so fields are found in text order.
