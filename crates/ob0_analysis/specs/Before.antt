@@ -27,8 +27,8 @@ use Rattle.ob0_analysis.specs.declared.fault_places.FaultPlaces.{FaultPlaces}
 
 -- Holds if three things are true for some previous text `old`. The scan `c` of the changed text
 -- reports correctly which tokens both texts share. The procedures were parsed from the tokens of
--- `old`, and also belong to the new tokens if the scan reports that all kinds are the same. The
--- last module is the last module of `old`.
+-- `old`, and also belong to the new tokens if the scan reports that all kinds are the same. If
+-- `last` is Some, it has the results for the last module before `old`.
 pub record AreKeptBefore (c : RescanInPlace) (procedures : Kept) (last : Option LastModule) : Type 0 where
   pub old : Scanned
   pub new_scan : IsScan c.rescan.tokens

@@ -31,8 +31,8 @@ text_read (NoTree ill) = ill.tokens.text
 text_read (Module m) = m.module_read.source.text
 
 -- Holds for a text without a tree if three conditions hold. The parser refuses its tokens with this
--- refusal. The kept procedures belong to its tokens. The last module, if there is one, is the last
--- module of this text. Always holds for a module.
+-- refusal. The kept procedures belong to its tokens. The kept results for the last module, if there
+-- are any, are for the last module before this text. Always holds for a module.
 abbrev pub IsRead : Reading → Type 0
 IsRead (NoTree ill) =
     IsRefusedByParser ill.tokens ill.refusal

@@ -62,7 +62,7 @@ constructed m t (is_module name b closing) = constructed m t b
 constructed m t other = []
 
 -- returns the type that the ARRAY or RECORD with ordinal `k` constructs, given the objects of
--- declarations; None if it is unknown or there is no such word
+-- declarations; None if the type is unknown or there is no such word
 abbrev pub constructed_by : (ℕ → Option (Object Shape Signature))
     → Resolution
     → ℕ

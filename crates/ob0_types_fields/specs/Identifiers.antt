@@ -123,8 +123,8 @@ RenamedAtTokens =
     then new
     else text_at r.module_read.source i) (value_at r.module_read.source) (tree_of r.module_read)
 
--- A record has another field with the new name `new` of its field `f` exactly if two conditions
--- hold: `new` differs from `f`, and a token declares a field `new` of the record.
+-- The new name `new` for the field `f` of a record is a duplicate exactly if two conditions hold:
+-- `new` differs from `f`, and a token declares a field `new` of the record.
 abbrev pub DuplicateByToken : Type 0
 DuplicateByToken =
     (m : Parsed) (k : ℕ) (f new : Name)

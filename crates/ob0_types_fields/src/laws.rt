@@ -12,8 +12,8 @@ pub fn owners_by_declaration()
     ensures { OwnersByDeclaration }
 {}
 
-/// Proves that a table has the owners of all fields of a well-typed module after the listed fields
-/// are entered in an empty table.
+/// Proves that a table has the owners of all fields of a well-typed module after the module's field
+/// identifiers are entered in an empty table.
 pub fn owners_of_fields()
     ensures { OwnersOfFields }
 {}
@@ -30,9 +30,8 @@ pub fn renamed_at_tokens()
     ensures { RenamedAtTokens }
 {}
 
-/// Proves that a record has another field with a field's new name exactly if two conditions hold.
-/// The new name isn't the field's own, and a token declares a field of the record with the new
-/// name.
+/// Proves that a new name for a field is a duplicate exactly if two conditions hold. The new name
+/// differs from the field's name, and a token declares a field with the new name in the same record.
 pub fn duplicate_by_token()
     ensures { DuplicateByToken }
 {}

@@ -111,8 +111,7 @@ impl FieldList {
     /// Returns the lists after the statements of one body were replaced. `place` is the place of
     /// the new body, and `same` has the unchanged tokens. Fields before the body's first identifier
     /// are kept. Fields from the block's closing name onwards are moved to the new indexes of their
-    /// tokens. The fields in the new statements are found by a walk. New indexes are at most 2^64 -
-    /// 1.
+    /// tokens, which are at most 2^64 - 1. The fields in the new statements are found by a walk.
     pub fn with_new_body<'a, 't>(
         self,
         alloc: Global,
