@@ -31,7 +31,7 @@ pub fn renamed_at_tokens()
 {}
 
 /// Proves that a new name for a field is a duplicate exactly if two conditions hold. The new name
-/// differs from the field's name, and a token declares a field with the new name in the same record.
+/// differs from the field's name, and a token declares a field of the record with the new name.
 pub fn duplicate_by_token()
     ensures { DuplicateByToken }
 {}
