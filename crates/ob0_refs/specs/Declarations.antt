@@ -32,13 +32,15 @@ abbrev pub parameter_hover : Name → Formal → HoverParameter
 parameter_hover name f =
     record { by_place = is_by_place f.mode; name = name; of = type_text f.shape }
 
--- returns the parameters of a procedure, given the names that are declared after it and its signature
+-- returns the parameters of a procedure in the form for hover texts, given the names that are
+-- declared after the procedure's name and the procedure's signature
 abbrev pub parameters_hover : List Name → Signature → List HoverParameter
 parameters_hover (x ∷ xs) (f ∷ fs) = parameter_hover x f ∷ parameters_hover xs fs
 parameters_hover [] fs = []
 parameters_hover (x ∷ xs) [] = []
 
--- returns the hover text of a declaration, given its name, the names declared after it, and its object
+-- returns the hover text of a declaration, given its name, the names declared after this name, and
+-- its object
 abbrev pub object_hover : Name → List Name → Object Shape Signature → Option (List ℕ)
 object_hover name following (a_constant v) = constant_hover name v
 object_hover name following (a_type s) = Some (named_type_text name (type_text s))
@@ -53,7 +55,8 @@ names_after m ordinal =
     map (text_at m.source)
     (drop (ordinal + 1 - predeclared_count) (declaring_only (identifiers role.Declaring (tree_of m))))
 
--- returns the hover text of a name that the text declares, given its object; None without an object
+-- returns the hover text of a name that the text declares, given the name's object; None without an
+-- object
 abbrev pub declaration_hover : Parsed
     → named.Named
     → Option (Object Shape Signature)
@@ -61,7 +64,8 @@ abbrev pub declaration_hover : Parsed
 declaration_hover m n object =
     option_and_then (object_hover (text_at m.source n.token) (names_after m n.ordinal)) object
 
--- returns the hover text of a name; the ordinals 0 to 6 are predeclared
+-- returns the hover text of a name, given the name's object; names with the ordinals 0 to 6 are
+-- predeclared and need no object
 abbrev pub name_hover : Parsed → named.Named → Option (Object Shape Signature) → Option (List ℕ)
 name_hover m n object =
     if nat_lt n.ordinal predeclared_count

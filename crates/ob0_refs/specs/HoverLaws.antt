@@ -17,18 +17,19 @@ abbrev mutual
   pub block_headings : Tree ℕ block → List (ℕ × List ℕ)
   block_headings (has_body (declares cs ts vs ps) statements) = headings ps
 
-  -- returns the headings of procedures, each followed by the headings in its block
+  -- returns the headings of procedures, each followed by the headings in the procedure's block
   pub headings : Tree ℕ (items procedure) → List (ℕ × List ℕ)
   headings end = []
   headings (more p rest) = procedure_headings p ++ headings rest
 
-  -- returns the heading of a procedure, followed by the headings in its block
+  -- returns the heading of a procedure, followed by the headings in the procedure's block
   pub procedure_headings : Tree ℕ (item procedure) → List (ℕ × List ℕ)
   procedure_headings (declares_procedure x fs b closing) =
       (x, formal_names (formal_sections fs)) ∷ block_headings b
 
--- holds if the first names declared after this procedure are the names of its parameters; a heading
--- is the procedure's token with its parameters' tokens
+-- Holds for the heading of a procedure if the first names declared after the procedure's name are
+-- the names of its parameters. A heading has the token of the procedure's name and the tokens of
+-- the parameters' names.
 pub record HasParametersAfter (m : Parsed) (heading : ℕ × List ℕ) : Type 0 where
   pub ordinal : ℕ
   pub declares : token_declaring (declaring_only (identifiers role.Declaring (tree_of m))) ordinal

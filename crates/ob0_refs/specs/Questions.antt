@@ -28,7 +28,8 @@ use Rattle.ob0_refs.specs.declared.answers.Of.TheVariants as answer_of
 abbrev pub index_of : Parsed → FieldName → ℕ
 index_of m x = unwrap_or (field_place m x.owner (text_at m.source x.token)) 0
 
--- returns the answer about a field: its span, its record and its index in the record
+-- returns the answer about a field identifier: its span, the field's record and the field's index
+-- in the record
 abbrev pub at_field : Parsed → FieldName → answer.At
 at_field m x =
     record { span = span_at m.source x.token; of = answer_of.Field x.owner (index_of m x) }
@@ -66,8 +67,8 @@ abbrev pub field_declared : Parsed → FieldName → Option Span
 field_declared m x =
     option_map (span_at m.source) (declaring_field m x.owner (text_at m.source x.token))
 
--- returns the span of the identifier that declares the name or field that an identifier means; None
--- for a predeclared name
+-- returns the span of the identifier that declares the name or field that an identifier refers to;
+-- None for a predeclared name
 abbrev pub declared_meant : Parsed → ℕ → Meant → Option Span
 declared_meant m token (Name ordinal) = declaring_span m ordinal
 declared_meant m token (Field k) = field_declared m (record { token = token; owner = k })
@@ -81,43 +82,43 @@ definition_at r offset =
 
 -- ---- the references
 
--- returns the list without this token; the whole list for None
+-- returns the list of tokens without this token; for None, the whole list
 abbrev pub other_tokens : Option ℕ → List ℕ → List ℕ
 other_tokens None tokens = tokens
 other_tokens (Some token) tokens = filter (λ other. not (other == token)) tokens
 
--- returns the tokens of a field in text order; if the Bool is false, the declaring token is left
--- out
+-- returns the tokens of a field's identifiers, in text order; if the Bool is false, without the
+-- declaring token
 abbrev pub field_references : Resolution → FieldName → Bool → List ℕ
 field_references r x true = field_tokens r x.owner (text_at r.module_read.source x.token)
 field_references r x false =
     other_tokens (declaring_field r.module_read x.owner (text_at r.module_read.source x.token))
     (field_tokens r x.owner (text_at r.module_read.source x.token))
 
--- returns the spans of a field's identifiers, in text order; if `include` is false, the declaring
--- one is left out
+-- returns the spans of a field's identifiers, in text order; if `include` is false, without the
+-- declaring identifier
 abbrev pub field_named : Resolution → Bool → FieldName → List Span
 field_named r include x = map (span_at r.module_read.source) (field_references r x include)
 
--- returns the spans of the references to the name or field that an identifier means; if `include`
--- is false, the declaring one is left out
+-- returns the spans of the references to the name or field that an identifier refers to; if
+-- `include` is false, without the declaring identifier
 abbrev pub named_meant : Resolution → Bool → ℕ → Meant → List Span
 named_meant r include token (Name ordinal) = references_to r.module_read ordinal include
 named_meant r include token (Field k) = field_named r include (record { token = token; owner = k })
 
--- returns the spans of the references to the name or field that an optional identifier means; empty
--- for None
+-- returns the spans of the references to the name or field that an optional identifier refers to;
+-- the empty list for None
 abbrev pub named_by : Resolution → Bool → Option Identified → List Span
 named_by r include None = []
 named_by r include (Some x) = named_meant r include x.token x.means
 
 -- returns the spans of the references to the name or field at a byte offset; if `include` is false,
--- the declaring one is left out
+-- without the declaring identifier
 abbrev pub references_at : Resolution → ℕ → Bool → List Span
 references_at r offset include = named_by r include (meant_at r offset)
 
--- holds if these spans are the references to the name or field at a byte offset; if `include` is
--- false, without the declaring one
+-- holds if these are the spans of the references to the name or field at a byte offset; if
+-- `include` is false, without the declaring identifier
 abbrev pub AreReferencesAt : Resolution → ℕ → Bool → List Span → Type 0
 AreReferencesAt r offset include spans = spans ≡ references_at r offset include
 

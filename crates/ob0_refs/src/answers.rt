@@ -27,7 +27,8 @@ pub struct Hover {
     pub text: String,
 }
 
-/// An identifier at which a new name for a declaration isn't free, by its span in bytes.
+/// A conflict of a new name for a declaration: the span, in bytes, of the identifier at which the
+/// new name isn't free.
 #[derive(Clone, Copy, PartialEq, Eq)]
 pub struct Capture {
     pub span: Span,

@@ -1,9 +1,13 @@
 //! Answers questions about the name or the field at a place.
 //!
-//! Each question, and also the hover text (`place_hovers`), is a match on the meaning of the identifier at the place
-//! (`meant_at` of `ob0_types`). Renaming uses the same meaning, so it renames the name or field of these answers. The
-//! references to a field are the identifiers that its renaming changes. References to a name take one pass over the
-//! table of ordinals, starting at the declaring token. References to a field take one pass over the module's fields.
+//! Each public function finds the meaning of the identifier at the place (`meant_at` of
+//! `ob0_types`) and has one case for a name and one for a field. The hover text does the same
+//! (`place_hovers`). Renaming also uses this meaning, so it renames the name or field of these
+//! answers.
+//!
+//! The references to a field are the identifiers that its renaming changes. References to a name
+//! take one pass over the table of ordinals, starting at the declaring token. References to a field
+//! take one pass over the module's fields.
 
 ghost use Rattle.std.specs.Prelude.{◌≡◌, IfOk, Some};
 ghost use Rattle.ob0_refs.specs.Questions.{AreReferencesAt, at_field, at_meant, declared_meant, definition_at, field_declared, field_named, field_references, index_of, identified_at, named_meant, other_tokens, renamable_at, renamable_meant};
@@ -57,7 +61,8 @@ fn at_field(well_typed: &WellTyped<'_>, field: FieldName) -> At
     }
 }
 
-/// Returns the index of a field among the fields of its record, or 0 if it isn't found.
+/// Returns the index of the field that an identifier belongs to among the fields of its record, or
+/// 0 if the field isn't found.
 fn index_of(well_typed: &WellTyped<'_>, field: FieldName) -> usize
     ensures { result ≡ index_of well_typed.now.module_read field }
 {
@@ -121,7 +126,8 @@ fn declared_meant(well_typed: &WellTyped<'_>, found: Identified) -> Option<Span>
     }
 }
 
-/// Returns the span of the identifier that declares a field, or None if it isn't found.
+/// Returns the span of the identifier that declares the field of an identifier, or None if it isn't
+/// found.
 fn field_declared(well_typed: &WellTyped<'_>, field: FieldName) -> Option<Span>
     ensures { result ≡ field_declared well_typed.now.module_read field }
 {
@@ -168,8 +174,8 @@ fn named_meant(
     }
 }
 
-/// Returns the spans of a field's identifiers, in text order. The declaring identifier is among them if `include` is
-/// true.
+/// Returns the spans of the identifiers of the field that `field` belongs to, in text order. The
+/// declaring identifier is among them if `include` is true.
 fn field_named(
     alloc: Global,
     well_typed: &WellTyped<'_>,
@@ -184,7 +190,8 @@ fn field_named(
     Ok(spans)
 }
 
-/// Returns the tokens of a field, in text order. The declaring token is among them if `include` is true.
+/// Returns the tokens of a field's identifiers, in text order. The declaring token is among them if
+/// `include` is true.
 fn field_references(
     alloc: Global,
     well_typed: &WellTyped<'_>,
@@ -204,7 +211,7 @@ fn field_references(
     Ok(uses)
 }
 
-/// Returns the list `tokens` without `token`, or all of it if `token` is None.
+/// Returns the list `tokens` without `token`, or the whole list if `token` is None.
 fn without(
     alloc: Global,
     token: Option<usize>,

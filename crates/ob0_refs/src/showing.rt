@@ -1,7 +1,8 @@
 //! Makes the hover texts of names, according to their declarations.
 //!
-//! A procedure is bound to its signature, which has no names. Its parameters are the declarations after its own in the
-//! text, as many as the signature has. Predeclared names are recognized by their ordinals (0 to 6).
+//! The signature of a procedure has no names of parameters. These are the first names declared
+//! after the procedure's name in the text, as many as the signature has parameters. Predeclared
+//! names are recognized by their ordinals (0 to 6).
 
 ghost use Rattle.std.specs.Prelude.{◌≡◌, ◌+◌, ◌-◌, [], IfOk, Some, drop, map, option_map, string_bytes};
 ghost use Rattle.ob0_tree.specs.Parsed.{tree_of};
@@ -116,8 +117,8 @@ pub(crate) fn field_line(
     format!(in alloc; "FIELD {name}: {of}")
 }
 
-/// Returns the hover text of a procedure: its name and its parameters, whose names are the next ones declared in the
-/// text.
+/// Returns the hover text of a procedure: its name and its parameters. The parameters' names are
+/// the next names that the text declares.
 fn procedure_line(
     alloc: Global,
     known: &DeclarationTable,
@@ -156,8 +157,8 @@ fn declared_after<'r>(names: &'r Resolved<'_>, ordinal: usize) -> &'r [usize]
     }
 }
 
-/// Returns the parameters of a procedure with their names. `following` are the tokens of the declarations after the
-/// procedure's.
+/// Returns the parameters of a procedure with their names, for its hover text. `following` has the
+/// declaring tokens after the procedure's own.
 fn parameters_of<'s>(
     alloc: Global,
     known: &DeclarationTable,

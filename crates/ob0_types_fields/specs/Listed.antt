@@ -22,7 +22,7 @@ pub record Listed : Type 0 where
 abbrev pub if_declared : List FieldName → List FieldName → List FieldName
 if_declared declared all = if length declared == 0 then [] else all
 
--- returns the lists that the code's walks make, given the table with the object of each declaration
+-- returns the lists that the code's walks make, given the table of the module's declarations
 abbrev pub listed_by : Tables → Resolution → Listed
 listed_by t r = record {
   declared = declared_fields r.module_read;
@@ -31,18 +31,18 @@ listed_by t r = record {
       (marked_module (token_objects (declared_in t) r) (tree_of r.module_read));
 }
 
--- holds if the two lists have the fields that the module declares, and all identifiers of its
--- fields
+-- holds if the two lists are those of the module: the identifiers that declare a field, and all
+-- field identifiers
 abbrev pub AreFields : Resolution → Listed → Type 0
 AreFields r f = (f.declared ≡ declared_fields r.module_read) × (f.all ≡ field_identifiers r)
 
--- returns a list whose items starting at index `k` are overwritten by other items
+-- returns a list with its items from index `k` onwards overwritten by the items of another list
 abbrev pub written_over : List FieldName → ℕ → List FieldName → List FieldName
 written_over xs k [] = xs
 written_over xs k (y ∷ ys) = written_over (set xs k y) (k + 1) ys
 
--- Holds if `all` consists of `before`, some old fields and `after`, and its tokens ascend. The old
--- fields are at the same tokens as the fields in `others`.
+-- Holds if `all` consists of `before`, some old fields and `after`, in this order, and its tokens
+-- are in strictly ascending order. The old fields are at the same tokens as the fields in `others`.
 pub record HasOthersWithin (all before others after : List FieldName) : Type 0 where
   pub old : List FieldName
   pub top : ℕ
@@ -62,7 +62,7 @@ fields_from token xs = filter (λ x. nat_le token x.token) xs
 abbrev pub place_now : SameTokens → ℕ → ℕ
 place_now s i = min (moved s i) (2 ^ 64 - 1)
 
--- returns a field's identifier with the new index of its token
+-- returns a field identifier with the new index of its token after a change
 abbrev pub field_now : SameTokens → FieldName → FieldName
 field_now s x = record { token = place_now s x.token; owner = x.owner }
 
