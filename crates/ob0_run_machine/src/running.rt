@@ -1,4 +1,4 @@
-//! Runs of programs.
+//! The run of a program on an input, with its output and its end.
 
 ghost use Rattle.std.specs.Prelude.{◌≡◌, IfOk, Some};
 ghost use Rattle.ob0_run_machine.specs.Execution.{run};
@@ -41,7 +41,7 @@ pub struct Outcome {
     pub end: End,
 }
 
-/// Runs the statements of a program.
+/// Runs the statements of a program's body, starting with the machine's state.
 fn execute(
     program: &LoweredCode,
     calls: u32,
@@ -62,7 +62,9 @@ fn execute(
     run_called(&program.body, &level, turns, machine, &enter)
 }
 
-/// Returns the end of a run by the result of its statements. It is an error exactly if that is `Stop::Memory`.
+/// Returns the end of a run from the result of its statements: Done if they returned normally,
+/// otherwise the case for their `Stop`. Returns an error exactly if an allocation failed
+/// (`Stop::Memory`).
 fn end_of(executed: Result<(), Stop>) -> Result<End, AllocError>
     ensures { IsEndOf executed result }
 {
