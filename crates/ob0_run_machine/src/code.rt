@@ -81,7 +81,7 @@ pub struct Row {
     pub offset: usize,
 }
 
-/// A place at an offset in an element of an array. The array has `length` elements of `stride` cells
+/// A place at an offset in an element of an array, which has `length` elements of `stride` cells
 /// each.
 #[cycle(numbers)]
 #[derive(Drop)]

@@ -84,7 +84,7 @@ pub(crate) fn locate(place: &Place, level: &Level<'_>, cells: &[i32]) -> Result<
     }
 }
 
-/// Returns the address of a place in an element, in registers.
+/// Returns the result of `locate_element`, in registers.
 #[inline(never)]
 #[cycle(evaluation)]
 fn element(e: &Element, level: &Level<'_>, cells: &[i32]) -> Evaluated<usize>

@@ -343,7 +343,7 @@ pub(crate) fn run_inlined<F: Fn(&mut Machine<'_>, usize, &Level<'_>) -> Result<(
     Ok(())
 }
 
-/// Runs statements in order, in a call of its own. An IF runs its branches by this function.
+/// Runs statements in order. It isn't inlined; an IF runs its branches by this function.
 #[inline(never)]
 #[cycle(execution)]
 pub(crate) fn run_called<F: Fn(&mut Machine<'_>, usize, &Level<'_>) -> Result<(), Stop>>(
