@@ -1,4 +1,4 @@
-//! The facts about a module that the lowering of its blocks needs.
+//! The facts about a module that are needed to lower its blocks.
 
 ghost use Rattle.std.specs.Prelude.{◌≡◌};
 

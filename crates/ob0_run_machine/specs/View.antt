@@ -55,7 +55,7 @@ variable_of (variable.ByReference index offset) = lowered.passed 0 index offset
 abbrev pub reference_of : Reference → lowered.Place
 reference_of r = lowered.passed r.up r.index r.offset
 
--- the lowered place that a `Row` stands for: an element, at the value of a variable
+-- the lowered place that a `Row` stands for: an element whose index is the value of a variable
 abbrev pub row_of : Row → lowered.Place
 row_of r =
     lowered.element (variable_of r.array) (lowered.cell (variable_of r.index)) r.length r.stride
