@@ -328,7 +328,8 @@ impl<'s, 'k, 't> Scene<'s, 'k, 't> {
         }
     }
 
-    /// Returns the place of a variable with its selectors.
+    /// Returns the place of a designator: a variable with its selectors. Returns None if there is
+    /// none.
     #[cycle(lowering)]
     pub(crate) fn locate(
         &self,
