@@ -1,16 +1,16 @@
 -- Where lowered code finds the variables and procedures of a module, and when a table of procedures
 -- is lowered from its blocks.
--- A placing has the same names as an environment and says where each is: a variable in a slot, a
+-- A placement has the same names as an environment and says where each is: a variable in a slot, a
 -- procedure at a target. The meaning of a block is the record `BlockIsPlaced`, the meaning of a
 -- procedure the record `HasRoutine`; in both the recursive part is a parameter. `IsPlaced` keeps
--- the placing at a procedure's declaration with the procedure's binding, and `PlacingFits` recurses
--- over the bindings of the activation with that placing. So no slot has to be translated back to an
--- outer level.
--- Code that lowers has to meet `ProgramMeans as_labels (numbered m) program`, by the laws of
--- productions and by the recursion of `BlockMeans` over declarations. A procedure may have any
--- index whose entry in the table means the procedure's block. Variables of the module are
--- `of_module` at offsets that begin with 0. Variables of a procedure are `held 0`, after its value
--- parameters. VAR parameters are `by_reference 0`, by their index among the VAR parameters.
+-- the placement at a procedure's declaration with the procedure's binding, and `PlacingFits`
+-- recurses over the bindings of the activation with that placement. So no slot has to be translated
+-- back to an outer level. Code that lowers has to meet `ProgramMeans as_labels (numbered m)
+-- program`, by the laws of productions and by the recursion of `BlockMeans` over declarations. A
+-- procedure may have any index whose entry in the table means the procedure's block. Variables of
+-- the module are `of_module` at offsets that begin with 0. Variables of a procedure are `held 0`,
+-- after its value parameters. VAR parameters are `by_reference 0`, by their index among the VAR
+-- parameters.
 -- Rule: none; for contracts of lowering, against docs/LANGUAGE.md, Runs 6.
 use Rattle.std.specs.Prelude.{◌≡◌, ℕ, suc, ◌+◌, ◌≤◌, true, false, List, [], ◌∷◌, drop, slice_get, Some, Option, option_and_then}
 use Rattle.ob0_tree.specs.Tree.{Tree, begins, block, body, declares, declares_procedure, declares_variable, end, has_body, item, items, maybe, module_text, more, none, one, procedure, variable}
@@ -41,7 +41,7 @@ pub data Whereabouts : Type 0 where
 abbrev pub Placing : Type 0 → Type 0
 Placing N = List (N × Whereabouts)
 
--- the suffix of a placing that begins with the newest binding of a name; empty if there is none
+-- the suffix of a placement that begins with the newest binding of a name; empty if there is none
 abbrev pub from_name : {N : Type 0} → Naming N → Placing N → N → Placing N
 from_name naming [] x = []
 from_name naming (b ∷ placing) x =
@@ -69,11 +69,11 @@ abbrev pub first_target : {N : Type 0} → Placing N → Target
 first_target [] = record { procedure = 0; up = 0 }
 first_target (b ∷ placing) = target_of b.1
 
--- the slot that a name has in a placing
+-- the slot that a name has in a placement
 abbrev pub slots_in : {N : Type 0} → Naming N → Placing N → N → Slot
 slots_in naming placing x = first_slot (from_name naming placing x)
 
--- the target that a name has in a placing
+-- the target that a name has in a placement
 abbrev pub targets_in : {N : Type 0} → Naming N → Placing N → N → Target
 targets_in naming placing x = first_target (from_name naming placing x)
 
@@ -89,19 +89,19 @@ inward_whereabouts nowhere = nowhere
 inward_whereabouts (in_slot s) = in_slot (inward_slot s)
 inward_whereabouts (at_target t) = at_target record t { up = suc t.up }
 
--- a placing, seen from one more level inside
+-- a placement, seen from one more level inside
 abbrev pub inward : {N : Type 0} → Placing N → Placing N
 inward [] = []
 inward (b ∷ placing) = (b.0, inward_whereabouts b.1) ∷ inward placing
 
--- the placing so far of the names of an activation, the number of its cells, and the number of its
--- VAR parameters
+-- the placement so far of the names of an activation, the number of its cells, and the number of
+-- its VAR parameters
 pub record Placed (N : Type 0) : Type 0 where
   pub placing : Placing N
   pub cells : ℕ
   pub reference_places : ℕ
 
--- The placing after one more name: a value has n new cells, a VAR parameter has the next index.
+-- The placement after one more name: a value has n new cells, a VAR parameter has the next index.
 abbrev pub place_one : {N : Type 0} → (ℕ → Slot) → Mode → N → ℕ → Placed N → Placed N
 place_one at by_value x n p =
     record p { placing = (x, in_slot (at p.cells)) ∷ p.placing; cells = p.cells + n }
@@ -111,12 +111,12 @@ place_one at by_place x n p =
       reference_places = suc p.reference_places;
     }
 
--- The placing after names of one type, each in n new cells.
+-- The placement after names of one type, each in n new cells.
 abbrev pub place_names : {N : Type 0} → (ℕ → Slot) → List N → ℕ → Placed N → Placed N
 place_names at [] n p = p
 place_names at (x ∷ xs) n p = place_names at xs n (place_one at by_value x n p)
 
--- The placing after the variables of a block. None if one of their types denotes nothing.
+-- The placement after the variables of a block. None if one of their types denotes nothing.
 unfoldable pub place_variables : {N : Type 0}
     → Naming N
     → (ℕ → Slot)
@@ -132,13 +132,13 @@ place_variables naming at checked k (more (declares_variable ns u) gs) p =
     (bind_names (names_listed ns) (a_variable s) checked) (k + constructors u) gs
     (place_names at (names_listed ns) (size s) p)) (denoted (meanings naming checked) k u)
 
--- The placing after these parameters.
+-- The placement after these parameters.
 abbrev pub place_parameters : {N : Type 0} → List (TypedParameter N) → Placed N → Placed N
 place_parameters [] p = p
 place_parameters (q ∷ ps) p =
     place_parameters ps (place_one (held 0) q.formal.mode q.name (size q.formal.shape) p)
 
--- A placing with names added that are nowhere, such as the names of constants and types.
+-- A placement with names added that are nowhere, such as the names of constants and types.
 abbrev pub hide_names : {N : Type 0} → List N → Placing N → Placing N
 hide_names [] placing = placing
 hide_names (x ∷ xs) placing = hide_names xs ((x, nowhere) ∷ placing)
@@ -147,7 +147,7 @@ hide_names (x ∷ xs) placing = hide_names xs ((x, nowhere) ∷ placing)
 abbrev pub own_target : ℕ → Whereabouts
 own_target i = at_target record { procedure = i; up = 0 }
 
--- the placing of a procedure's parameters, followed by the names around the procedure, seen from
+-- the placement of a procedure's parameters, followed by the names around the procedure, seen from
 -- one more level inside
 abbrev pub entered_placing : {N : Type 0} → List (TypedParameter N) → Placing N → Placed N
 entered_placing ps placing =
@@ -177,7 +177,7 @@ abbrev pub label_table : List lowered.Routine → RoutineTable Label
 label_table routines = record { routines = routines; naming = as_labels }
 
 -- Runs 6: states that the routine at an index of the table means a procedure, which is declared in
--- the environment `checked` with the placing `placing`
+-- the environment `checked` with the placement `placing`
 pub record HasRoutine {N : Type 0} (table : RoutineTable N) (checked : TypeEnvironment N)
     (placing : Placing N) (x : N) (k : ℕ) (text : Tree N (item procedure)) (index : ℕ)
     (Means : TypeEnvironment N → Placed N → lowered.Routine → Type 0) : Type 0 where
@@ -292,8 +292,8 @@ IsPlaced table typing ls checked Fits x (a_constant v) nowhere (a_constant w) = 
 IsPlaced table typing ls checked Fits x (a_standard p) nowhere (a_standard q) = Unit {0}
 IsPlaced table typing ls checked Fits x _ _ _ = ⊥
 
--- states that the first binding of an environment, a placing and an activation has one name; `Here`
--- is the fact about it, and `Further` the fact about the older bindings
+-- states that the first binding of an environment, a placement and an activation has one name;
+-- `Here` is the fact about it, and `Further` the fact about the older bindings
 pub record FitsFirst {N : Type 0} (checked placed active : N) (Here Further : Type 0)
     : Type 0 where
   pub same_active : checked ≡ active
@@ -301,7 +301,7 @@ pub record FitsFirst {N : Type 0} (checked placed active : N) (Here Further : Ty
   pub here : Here
   pub further : Further
 
--- Runs 1 and 6: states that a placing is right for the bindings of an activation, as seen from
+-- Runs 1 and 6: states that a placement is right for the bindings of an activation, as seen from
 -- these levels
 abbrev pub PlacingFits : {N : Type 0}
     → RoutineTable N
@@ -319,7 +319,7 @@ PlacingFits table typing ls (b ∷ checked) (w ∷ placing) (d ∷ active) =
     (PlacingFits table typing ls checked placing active)
 PlacingFits table typing ls _ _ _ = ⊥
 
--- the placing of the predeclared names, which are nowhere
+-- the placement of the predeclared names, which are nowhere
 abbrev pub outermost_placing : {N : Type 0} → Naming N → Placing N
 outermost_placing naming =
     (naming.predeclared 6, nowhere)

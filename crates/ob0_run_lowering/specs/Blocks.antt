@@ -33,7 +33,7 @@ Later table n ps =
 abbrev pub Grown : List Routine → List Routine → Type 0
 Grown before now = (i : ℕ) (e : Routine) → slice_get before i ≡ Some e → slice_get now i ≡ Some e
 
--- the state before some procedures of a block: the environment, the placing of its names, and the
+-- the state before some procedures of a block: the environment, the placement of its names, and the
 -- ordinal of the next ARRAY or RECORD
 pub record BlockState : Type 0 where
   pub env : TypeEnvironment Label

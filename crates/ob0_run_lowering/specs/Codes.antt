@@ -1,4 +1,5 @@
--- The code of values by their types: of the value at a place, of an operation on two values, of a part.
+-- The code of values by their types: of the value at a place, of an operation on two values, of a
+-- part.
 -- Rule: none; for contracts of lowering.
 use Rattle.std.specs.Prelude.{◌≡◌, ℕ, ◌*◌, ◌%◌, ◌^◌, pos, Some, None, Option, option_map, if◌then◌else◌, nat_lt}
 use Rattle.ob0_tree.specs.declared.tree.Relation.{Relation}

@@ -3,8 +3,8 @@
 -- checked names, slots and targets that the scene sees, a tree that fits has its meaning. Each law
 -- of `ob0_run_cells` is lifted to this form once (`proofs/InScene`): if the whole fits, its parts
 -- fit. The clause of `body` states the meaning of a body where it occurs (`BodyMeans` of
--- `ob0_run_cells`): in each environment and at each placing that the scene sees, if the body fits.
--- A tree that occurs in no well-typed module doesn't fit, so its clause holds for any code.
+-- `ob0_run_cells`): in each environment and at each placement that the scene sees, if the body
+-- fits. A tree that occurs in no well-typed module doesn't fit, so its clause holds for any code.
 -- Rule: none; for contracts of lowering.
 use Rattle.std.specs.Prelude.{◌≡◌, ◌&&◌, Bool, List, [], IsTrue, Option, Some, None}
 use Rattle.std.specs.declared.alloc.Global.{Global}
@@ -96,8 +96,8 @@ ElsifsLower scene bs cs rest last =
     InScene scene (λ checked. elsifs_fit checked rest && else_fits checked last)
     (λ checked slots targets. ElsifsMean checked slots targets bs cs rest last)
 
--- States that instructions mean a body in each environment and at each placing that the scene sees,
--- if the body fits in the environment.
+-- States that instructions mean a body in each environment and at each placement that the scene
+-- sees, if the body fits in the environment.
 abbrev pub BodyLowers : Scene → lowered.Instructions → Tree Label (maybe body) → Type 0
 BodyLowers scene cs b =
     (env : TypeEnvironment Label) (placing : Placing Label)

@@ -1,10 +1,10 @@
--- The sites of placed names, and the placing of the names of a block or a heading, one by one.
+-- The sites of placed names, and the placement of the names of a block or a heading, one by one.
 -- Constants and types need no code, so their place is `nowhere`, and `LocatesAll` claims nothing
 -- about them. Functions of the names say which names are placed (`place_groups`, `place_sections`),
 -- so loops over names need no types or environments. For each there is a lemma (`groups_placed`,
 -- `sections_placed`): if the declarations fit, the sizes are the sizes of the declared types. The
 -- steps have the order of the definition. So a frame (`Frame`: depth, cells, VAR parameters) has
--- the numbers of the placing so far, without its names (`IsFrame`).
+-- the numbers of the placement so far, without its names (`IsFrame`).
 -- Rule: none; for contracts of lowering.
 use Rattle.std.specs.Prelude.{◌≡◌, ℕ, zero, suc, ◌≤◌, List, [], ◌∷◌, ◌++◌, length, if◌then◌else◌, ◌==◌, Some, None, Option}
 use Rattle.ob0_tree.specs.Tree.{Tree, declares_variable, end, further_section, items, more, then_section, variable}
@@ -26,12 +26,12 @@ use Rattle.ob0_run_lowering.specs.declared.visible_sites.Frame.{Frame}
 use Rattle.ob0_run_lowering.specs.declared.visible_sites.Hidden.{Hidden}
 use Rattle.ob0_run_lowering.specs.declared.visible_sites.VisibleSites.{VisibleSites}
 
--- the place of the first name of a placing; `nowhere` if it is empty
+-- the place of the first name of a placement; `nowhere` if it is empty
 abbrev pub first_placed : Placing Label → Whereabouts
 first_placed [] = nowhere
 first_placed (b ∷ placing) = b.1
 
--- the place that a placing has for a name; `nowhere` if the name isn't placed
+-- the place that a placement has for a name; `nowhere` if the name isn't placed
 abbrev pub found : Placing Label → Label → Whereabouts
 found placing x = first_placed (from_name as_labels placing x)
 
@@ -60,8 +60,8 @@ Suits (a_variable s) w = (slot : Slot) × (w ≡ in_slot slot)
 Suits (a_procedure p) w = (t : Target) × (w ≡ at_target t)
 Suits _ w = Unit {0}
 
--- states that an environment and a placing bind the same names in the same order, each to an object
--- and a place that suits it
+-- states that an environment and a placement bind the same names in the same order, each to an
+-- object and a place that suits it
 abbrev pub Matches : TypeEnvironment Label → Placing Label → Type 0
 Matches [] [] = Unit {0}
 Matches (b ∷ env) (w ∷ placing) = (b.0 ≡ w.0) × Suits b.1 w.1 × Matches env placing
@@ -87,13 +87,13 @@ abbrev pub IsNextSite : Frame → Site → Type 0
 IsNextSite f s =
     (site_depth s ≤ f.depth) × (seen_from f.depth s ≡ in_slot (slots_at f.depth f.cells))
 
--- a placing with the names of one declaration added one by one, by their sizes
+-- a placement with the names of one declaration added one by one, by their sizes
 abbrev pub place_each : (ℕ → Slot) → (Label → ℕ) → Mode → List Label → Placed Label → Placed Label
 place_each at size_of mode [] p = p
 place_each at size_of mode (x ∷ xs) p =
     place_each at size_of mode xs (place_one at mode x (size_of x) p)
 
--- a placing with the variables of a block added one by one
+-- a placement with the variables of a block added one by one
 abbrev pub place_groups : (ℕ → Slot)
     → (Label → ℕ)
     → Tree Label (items variable)
@@ -103,7 +103,7 @@ place_groups at size_of end p = p
 place_groups at size_of (more (declares_variable ns u) gs) p =
     place_groups at size_of gs (place_each at size_of by_value (names_listed ns) p)
 
--- a placing with the parameters of a heading added one by one
+-- a placement with the parameters of a heading added one by one
 abbrev pub place_sections : (ℕ → Slot)
     → (Label → ℕ)
     → Tree Label (items further_section)
@@ -148,14 +148,14 @@ IsRestored w u v =
     × ((k : ℕ) → site_at v.sites.items k ≡ site_at w.sites.items k)
     × (length v.sites.items ≡ length u.sites.items)
 
--- states that a frame has the numbers of a placing so far, and the table of sites all its names
+-- states that a frame has the numbers of a placement so far, and the table of sites all its names
 pub record IsFrame (sites : List Site) (f : Frame) (p : Placed Label) : Type 0 where
   pub holds : LocatesAll sites f.depth p.placing
   pub cells : f.cells ≡ p.cells
   pub reference_places : f.references ≡ p.reference_places
 
 -- states that a table and a frame change from `w` and `f` to `v` and `g` as `step` changes the
--- placing
+-- placement
 pub record Places (w v : VisibleSites) (f : Frame) (step : Placed Label → Placed Label) (g : Frame)
     : Type 0 where
   pub placed : (p : Placed Label) → IsFrame w.sites.items f p → IsFrame v.sites.items g (step p)

@@ -4,7 +4,7 @@
 //! declarations, blocks and procedures. The contracts of the first two hold for any `checked`,
 //! `slots` and `targets` for which the scene is right (`Sees`): each bound name has the object of
 //! its declaration, and is at the place that the scene has for it. So these contracts mention no
-//! environments, placings or blocks. The code that lowers blocks shows `Sees` at each body. The
+//! environments, placements or blocks. The code that lowers blocks shows `Sees` at each body. The
 //! code of an expression means the expression if it has a type (`Lowers`); otherwise nothing is
 //! claimed. So every tree is accepted, and each has some code.
 #![tactic(auto)]

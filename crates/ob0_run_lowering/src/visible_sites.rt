@@ -1,4 +1,4 @@
-//! The sites of the declarations in scope, and the placing of the names of a block or a heading.
+//! The sites of the declarations in scope, and the placement of the names of a block or a heading.
 //!
 //! A binding records the site that it hides. At the end of the procedure this site is restored. So
 //! one table by ordinal is enough, and a procedure takes time only for the names that it declares.
