@@ -5,12 +5,11 @@
 -- procedure the record `HasRoutine`; in both the recursive part is a parameter. `IsPlaced` keeps
 -- the placement at a procedure's declaration with the procedure's binding, and `PlacingFits`
 -- recurses over the bindings of the activation with that placement. So no slot has to be translated
--- back to an outer level. Code that lowers has to meet `ProgramMeans as_labels (numbered m)
--- program`, by the laws of productions and by the recursion of `BlockMeans` over declarations. A
--- procedure may have any index whose entry in the table means the procedure's block. Variables of
--- the module are `of_module` at offsets that begin with 0. Variables of a procedure are `held 0`,
--- after its value parameters. VAR parameters are `by_reference 0`, by their index among the VAR
--- parameters.
+-- back to an outer level. The code of a module has to meet `ProgramMeans` for its numbered tree, by
+-- the laws of productions and by the recursion of `BlockMeans` over declarations. A procedure may
+-- have any index whose entry in the table means the procedure's block. Variables of the module are
+-- `of_module` at offsets that begin with 0. Variables of a procedure are `held 0`, after its value
+-- parameters. VAR parameters are `by_reference 0`, by their index among the VAR parameters.
 -- Rule: none; for contracts of lowering, against docs/LANGUAGE.md, Runs 6.
 use Rattle.std.specs.Prelude.{◌≡◌, ℕ, suc, ◌+◌, ◌≤◌, true, false, List, [], ◌∷◌, drop, slice_get, Some, Option, option_and_then}
 use Rattle.ob0_tree.specs.Tree.{Tree, begins, block, body, declares, declares_procedure, declares_variable, end, has_body, item, items, maybe, module_text, more, none, one, procedure, variable}
