@@ -1,5 +1,5 @@
--- Where lowered code finds the variables and procedures of a module, and when a table of procedures
--- is lowered from its blocks.
+-- Where lowered code finds the variables and procedures of a module, and when a program means a
+-- module.
 -- A placement has the same names as an environment and says where each is: a variable in a slot, a
 -- procedure at a target. The meaning of a block is the record `BlockIsPlaced`, the meaning of a
 -- procedure the record `HasRoutine`; in both the recursive part is a parameter. `IsPlaced` keeps

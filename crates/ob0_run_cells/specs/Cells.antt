@@ -50,7 +50,7 @@ abbrev mutual
   field_sizes no_field_shape = 0
   field_sizes (next_field_shape x s rest) = size s + field_sizes rest
 
--- the number of cells of the variables of a store
+-- the number of cells of all variables in a store with these types
 abbrev pub sizes : StoreTyping → ℕ
 sizes [] = 0
 sizes (s ∷ typing) = size s + sizes typing

@@ -1,5 +1,5 @@
--- The meaning of lowered code: its places, numbers and truths against the designators
--- and expressions of a module, at the moments of a run.
+-- The meaning of lowered places, numbers and truths: they give the places and values of a module's
+-- designators and expressions, at each moment of a run.
 -- A meaning is a relation between lowered code and a function of the moment (`Evaluated`), not a
 -- tree. So operators need no types: a number of lowered code means a number. Only places and
 -- variables need types. The value of an array or a record is in the cells at a place (`ValueAt`),

@@ -1,4 +1,4 @@
--- The table of the numbers of cells of types, and of the offsets of fields.
+-- The layouts of types: their numbers of cells, and the offsets of fields.
 -- Rule: none; for contracts of lowering.
 use Rattle.std.specs.Prelude.{◌≡◌, ℕ, ◌+◌, List, [], ◌∷◌, Some, None, Option}
 use Rattle.std.specs.Borrow.{Bor}

@@ -75,7 +75,8 @@ fn lower_call(
     }))
 }
 
-/// Returns the code of the arguments of a call, each for its parameter.
+/// Returns the code of a call's arguments, each according to its parameter. It is empty if the call
+/// has no argument list.
 fn arguments(
     alloc: Global,
     scene: &Scene<'_, '_, '_>,

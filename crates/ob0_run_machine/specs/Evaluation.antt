@@ -37,7 +37,7 @@ abbrev pub innermost : Levels → Level
 innermost [] = record { base = 0; addresses = [] }
 innermost (l ∷ ls) = l
 
--- the activation some levels out
+-- the activation `up` levels out
 abbrev pub level_at : Levels → ℕ → Level
 level_at ls up = innermost (drop up ls)
 
@@ -105,7 +105,7 @@ is_true (pos zero) = false
 is_true (pos (suc n)) = true
 is_true (negsuc n) = true
 
--- a truth value as a cell
+-- the cell of a truth value: 0 for FALSE, 1 for TRUE
 abbrev pub as_cell : Bool → ℤ
 as_cell false = pos 0
 as_cell true = pos 1

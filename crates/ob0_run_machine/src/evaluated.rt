@@ -1,4 +1,4 @@
-//! The results of evaluations.
+//! The result of an evaluation, in a form that is returned in registers.
 //!
 //! A `Result` of a number or an address is returned through memory, an enum with one payload in
 //! registers. So the functions that aren't inlined (`operation`, `flat_truth`, ..) return the type

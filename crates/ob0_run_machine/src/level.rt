@@ -1,4 +1,4 @@
-//! Activations.
+//! The activations of a run, as a linked list.
 //!
 //! The static chain is a linked list on the machine's own stack. A `Level` has its base, the
 //! addresses of its VAR parameters, and a reference to the level in which its procedure is

@@ -18,19 +18,19 @@ use std::alloc::{AllocError, Global};
 /// The end of a run.
 #[derive(Clone, Copy, PartialEq, Eq, Debug)]
 pub enum End {
-    /// The end of the program.
+    /// The end of the program was reached.
     Done,
-    /// A result outside the 32 bits.
+    /// A result had more than 32 bits.
     Overflow,
-    /// A divisor below 1.
+    /// A divisor was below 1.
     Divisor,
-    /// An index outside its array.
+    /// An index was outside its array.
     Index,
-    /// Nothing left to read.
+    /// No input was left to read.
     InputEnd,
-    /// One more call than may be open.
+    /// One more call than allowed would have been open.
     CallBound,
-    /// One more iteration than an execution of a loop may make.
+    /// A loop would have made one more iteration than allowed.
     TurnBound,
 }
 
