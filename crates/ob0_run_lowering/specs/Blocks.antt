@@ -72,7 +72,8 @@ pub record Reaches (t : Tables) (w v : Lowering) (depth : ℕ) (s : BlockState)
       → AllMean table now code statements left
       → AllMean table s code statements ps
 
--- states the same for each state and any statements, and that the tables only grow
+-- states that the procedures `ps` of a block are lowered, except the procedures `left`, from each
+-- state and for any statements (`Reaches`), and that both tables only grow
 pub record Goes (t : Tables) (w v : Lowering) (depth : ℕ) (ps left : Tree Label (items procedure))
     : Type 0 where
   pub on : (s : BlockState) (statements : Tree Label (maybe body))

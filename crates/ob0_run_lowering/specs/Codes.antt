@@ -146,7 +146,7 @@ element_found (a_number i) q (array_shape k n s) =
     Some (record { place = element_at_place q i n (size s); shape = s })
 element_found _ _ _ = None
 
--- the same for an array that may not have been found
+-- the place and type of an element of the array that was found; None if none was found
 abbrev pub element_of : ExpressionCode → Option FoundPlace → Option FoundPlace
 element_of c None = None
 element_of c (Some f) = element_found c f.place f.shape

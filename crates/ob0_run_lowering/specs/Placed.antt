@@ -117,7 +117,8 @@ place_sections at size_of (more (then_section f) fs) p =
 abbrev pub put_site : ℕ → Site → (ℕ → Site) → ℕ → Site
 put_site ordinal s sites k = if k == ordinal then s else sites k
 
--- the same for the ordinal of a name; unchanged if the name has no ordinal
+-- the sites of ordinals, with another site for the ordinal of a name; unchanged if the name has no
+-- ordinal
 abbrev pub put_at : Option ℕ → Site → (ℕ → Site) → ℕ → Site
 put_at None s sites = sites
 put_at (Some ordinal) s sites = put_site ordinal s sites

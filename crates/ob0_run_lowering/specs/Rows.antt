@@ -14,7 +14,8 @@ and_depth (truth.Both' pointer left right) = suc (and_depth left)
 and_depth (truth.All' pointer first shape row) = suc (and_depth first)
 and_depth _ = 0
 
--- the number of disjunctions on the left, counted in the same way
+-- the number of disjunctions on the left: the truth, its first operand, the first operand of that,
+-- and so on, as long as they are disjunctions
 abbrev pub or_depth : Truth → ℕ
 or_depth (truth.Either' pointer left right) = suc (or_depth left)
 or_depth (truth.Any' pointer first shape row) = suc (or_depth first)

@@ -173,7 +173,7 @@ impl<'k> Types<'k> {
     ///
     /// # Errors
     ///
-    /// Out of memory.
+    /// An allocation failed, or a size has more than 64 bits.
     pub fn new(alloc: Global, known: &'k DeclarationTable) -> Result<Types<'k>, AllocError>
         ensures { IfOk result (λ t. t ≡ known.now) }
     {

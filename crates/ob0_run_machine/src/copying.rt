@@ -4,7 +4,7 @@
 ghost use Rattle.std.specs.Prelude.{◌≡◌, ◌+◌, ◌≤◌, length};
 ghost use Rattle.ob0_run_machine.specs.Execution.{copied};
 
-/// Copies `count` cells from `from` to `to`, which is after all of them.
+/// Copies `count` cells from `from` to `to`. The copied cells have to end before `to`.
 pub(crate) fn copy_up(cells: &mut [i32], to: usize, from: usize, count: usize)
     requires { (from + count ≤ to) × (to + count ≤ length cells.old) }
     ensures { cells.new ≡ copied cells.old to from count }
@@ -13,7 +13,7 @@ pub(crate) fn copy_up(cells: &mut [i32], to: usize, from: usize, count: usize)
     back[..count].copy_from_slice(&front[from..from + count]);
 }
 
-/// Copies `count` cells from `from` to `to`, if the copy ends before `from`.
+/// Copies `count` cells from `from` to `to`. The copy has to end before `from`.
 fn copy_down(cells: &mut [i32], to: usize, from: usize, count: usize)
     requires { (to + count ≤ from) × (from + count ≤ length cells.old) }
     ensures { cells.new ≡ copied cells.old to from count }

@@ -68,7 +68,7 @@ pub(crate) fn row(row: &Row, level: &Level<'_>, cells: &[i32]) -> Result<usize, 
     element_at(array, row.length, row.stride, index)
 }
 
-/// Returns the address of a place, or the fault of an index in it.
+/// Returns the address of a place, or the fault that ends the evaluation of an index in it.
 #[inline(always)]
 #[cycle(evaluation)]
 pub(crate) fn locate(place: &Place, level: &Level<'_>, cells: &[i32]) -> Result<usize, Ending>
@@ -104,7 +104,7 @@ fn locate_element(e: &Element, level: &Level<'_>, cells: &[i32]) -> Result<usize
     element_at(forward(a, e.offset), e.length, e.stride, i)
 }
 
-/// Returns the value of a number, or the fault of its evaluation.
+/// Returns the value of a number, or the fault that ends its evaluation.
 #[inline(always)]
 #[cycle(evaluation)]
 pub(crate) fn evaluate_number(n: &Number, level: &Level<'_>, cells: &[i32]) -> Result<i32, Ending>
