@@ -1,6 +1,6 @@
 -- Where lowered code finds the variables and procedures of a module, and when a program means a
 -- module.
--- A placement has the same names as an environment and says where each is: a variable in a slot, a
+-- A placement has the names of an environment with their places: a variable is in a slot, a
 -- procedure at a target. The meaning of a block is the record `BlockIsPlaced`, the meaning of a
 -- procedure the record `HasRoutine`; in both the recursive part is a parameter. `IsPlaced` keeps
 -- the placement at a procedure's declaration with the procedure's binding, and `PlacingFits`
@@ -29,14 +29,14 @@ use Rattle.ob0_run_cells.specs.Cells.{address, size}
 use Rattle.ob0_run_cells.specs.LoweredStatements.{SequenceMeans, Target}
 use Rattle.ob0_run_cells.specs.Lowering.{Slot, held, by_reference, of_module, slot_address}
 
--- where a declaration is in lowered code: a variable in a slot, a procedure at a target, anything
--- else nowhere
+-- the place of a declaration in lowered code: a slot for a variable, a target for a procedure, or
+-- nowhere for anything else
 pub data Whereabouts : Type 0 where
   nowhere : Whereabouts
   in_slot : Slot → Whereabouts
   at_target : Target → Whereabouts
 
--- where each bound name is in lowered code, the newest name first, as in an environment
+-- the place of each bound name in lowered code, the newest name first, as in an environment
 abbrev pub Placing : Type 0 → Type 0
 Placing N = List (N × Whereabouts)
 

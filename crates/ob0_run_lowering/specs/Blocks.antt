@@ -1,4 +1,4 @@
--- The meaning of the code of procedures and blocks, where they occur in a well-typed module.
+-- The meaning of the code of the procedures and blocks that occur in a well-typed module.
 -- A procedure gets an index at its heading, with a placeholder in the table of procedures. At its
 -- end its code is stored there. Clauses hold for any later table that has the same code from an
 -- index to the end (`Later`). So earlier code keeps its meaning, and no clause mentions the last

@@ -2,8 +2,8 @@
 -- `InScene` is the form of every clause about statements except the clause of `body`: for all
 -- checked names, slots and targets that the scene sees, a tree that fits has its meaning. Each law
 -- of `ob0_run_cells` is lifted to this form once (`proofs/InScene`): if the whole fits, its parts
--- fit. The clause of `body` states the meaning of a body where it occurs (`BodyMeans` of
--- `ob0_run_cells`): in each environment and at each placement that the scene sees, if the body
+-- fit. The clause of `body` states the meaning of a body by `BodyMeans` of
+-- `ob0_run_cells`, in each environment and at each placement that the scene sees, if the body
 -- fits. A tree that occurs in no well-typed module doesn't fit, so its clause holds for any code.
 -- Rule: none; for contracts of lowering.
 use Rattle.std.specs.Prelude.{◌≡◌, ◌&&◌, Bool, List, [], IsTrue, Option, Some, None}

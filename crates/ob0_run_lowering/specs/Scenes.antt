@@ -14,7 +14,7 @@ use Rattle.ob0_run_lowering.specs.declared.scene.Scene.{Scene}
 use Rattle.ob0_run_lowering.specs.declared.scene.Site.{Site}
 use Rattle.ob0_run_lowering.specs.declared.scene.Site.TheVariants as site
 
--- where a site is in lowered code, as seen from an activation of this depth
+-- the place of a site in lowered code, as seen from an activation of this depth
 abbrev pub seen_from : ℕ → Site → Whereabouts
 seen_from depth site.Nowhere = nowhere
 seen_from depth (site.Module offset) = in_slot (of_module offset)
@@ -27,7 +27,7 @@ seen_from depth (site.Procedure at index) =
 abbrev pub site_at : List Site → ℕ → Site
 site_at sites k = slice_index_or sites k site.Nowhere
 
--- where the declaration of a label is in lowered code, as seen from a scene
+-- the place in lowered code of the declaration of a label, as seen from a scene
 abbrev pub whereabouts : Scene → Label → Whereabouts
 whereabouts scene (declared k) = seen_from scene.depth (site_at scene.sites.now k)
 whereabouts scene (as_written x) = nowhere

@@ -5,10 +5,10 @@
 //! `View` these nodes have the same meaning as nested ones, so no other module has to distinguish
 //! them. The same holds for the forms of places, negations and assignments that the machine
 //! evaluates in fewer steps. Since the meaning is the same, the nesting has separate clauses
-//! (`specs/Rows`). One more operand makes a conjunction at most as deep on the left as it was, or
-//! as a pair (`GoesOnFlat`). So the first operand of a conjunction isn't a conjunction (`IsFlat`).
-//! `both` and `either` list each case of the left operand, since a proof knows nothing about an
-//! operand in a wildcard arm.
+//! (`specs/Rows`). One more operand makes a conjunction at most as deep on the left as before,
+//! or as a pair (`GoesOnFlat`). So the first operand of a conjunction isn't a conjunction
+//! (`IsFlat`). `both` and `either` list each case of the left operand, since a proof knows nothing
+//! about an operand in a wildcard arm.
 
 ghost use Rattle.std.specs.Prelude.{◌≡◌, ◌≤◌, IfOk, IfSome, max, suc};
 ghost use Rattle.ob0_run_machine.specs.Lowered as machine;

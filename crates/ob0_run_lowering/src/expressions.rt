@@ -101,8 +101,8 @@ impl<'s, 'k, 't> Scene<'s, 'k, 't> {
         Ok(truth_of(lowered))
     }
 
-    /// Returns the place of a designator and its type. If none is found, it is the module's first
-    /// cell.
+    /// Returns the place of a designator and its type, or the module's first cell if there is no
+    /// such place.
     pub fn place(&self, alloc: Global, d: &Designator) -> Result<TypedPlace, AllocError>
         ensures { IfOk result (Locates self.now (out-Designator d.now).name (selectors_in d.now)) }
     {

@@ -59,8 +59,8 @@ fn times(count: usize, cells: usize) -> Result<usize, AllocError>
     }
 }
 
-/// Returns the number of cells of the array type at a place of the table. Returns 0 if no array
-/// type is there.
+/// Returns the number of cells of the array type at a place of the table, or 0 if the table has no
+/// array type at this place.
 fn array_cells(layouts: &[Layout], place: usize) -> usize
     ensures { (shapes : List values.Shape)
         → LayOut shapes layouts.now
@@ -75,8 +75,8 @@ fn array_cells(layouts: &[Layout], place: usize) -> usize
     }
 }
 
-/// Returns the layout of the record type at a place of the table, or None if no record type is
-/// there.
+/// Returns the layout of the record type at a place of the table, or None if the table has no
+/// record type at this place.
 fn record_at(layouts: &[Layout], place: usize) -> Option<&RecordLayout>
     ensures { (shapes : List values.Shape)
         → LayOut shapes layouts.now

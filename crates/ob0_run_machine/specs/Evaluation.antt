@@ -90,7 +90,7 @@ abbrev mutual
   number ls cells (negative n) = number ls cells n >>= (λ a. in_range (neg_ℤ a))
   number ls cells (operation o m n) = number ls cells m >>= (λ a. number ls cells n >>= operate o a)
 
--- whether a relation holds between two numbers
+-- true if a relation holds between two numbers
 abbrev pub compare : Comparator → ℤ → ℤ → Bool
 compare equal a b = int_le a b && int_le b a
 compare not_equal a b = not (int_le a b && int_le b a)
