@@ -123,7 +123,7 @@ abbrev pub put_at : Option ℕ → Site → (ℕ → Site) → ℕ → Site
 put_at None s sites = sites
 put_at (Some ordinal) s sites = put_site ordinal s sites
 
--- the sites of ordinals before these were hidden, of which the first was hidden first
+-- the sites of ordinals before these sites were hidden, which are listed in the order of hiding
 abbrev pub before_all : List Hidden → (ℕ → Site) → ℕ → Site
 before_all [] sites = sites
 before_all (h ∷ later) sites = put_site h.ordinal h.before (before_all later sites)

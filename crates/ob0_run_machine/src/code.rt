@@ -1,8 +1,8 @@
 //! Lowered code: variables are offsets of cells, designators are bases, bounds and offsets, and a
 //! call refers to its procedure by its index.
 //!
-//! Several forms of nodes have the same meaning (`View`). So the machine takes fewer steps, and the
-//! definitions don't distinguish more cases:
+//! Some nodes are special forms of others, with the same meaning by `View`. The machine takes fewer
+//! steps for them, and the definitions don't mention them:
 //!
 //! - A variable of the module or of the running activation, or at an offset from the address of a
 //!   VAR parameter, is one tag (`Variable`). It occurs as a number, as the target of an assignment,
