@@ -2,7 +2,7 @@
 //! call refers to its procedure by its index.
 //!
 //! Some nodes are special forms of others, with the same meaning by `View`. The machine takes fewer
-//! steps for them, and the definitions don't mention them:
+//! steps for them, and the meaning of lowered code is defined without them:
 //!
 //! - A variable of the module or of the running activation, or at an offset from the address of a
 //!   VAR parameter, is one tag (`Variable`). It occurs as a number, as the target of an assignment,
