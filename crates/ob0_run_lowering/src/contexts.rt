@@ -1,4 +1,4 @@
-//! The facts about a module that the lowering of its blocks needs.
+//! The facts about a module that are needed to lower its blocks.
 
 ghost use Rattle.std.specs.Prelude.{◌≡◌};
 
@@ -7,7 +7,8 @@ use ob0_scope_table::Resolved;
 use ob0_types_table::TypeId;
 use std::alloc::Global;
 
-/// The module, its types, and the allocator.
+/// The data with which the blocks of a module are lowered: the module, its types, and the
+/// allocator.
 #[derive(Clone, Copy)]
 pub(crate) struct LoweringContext<'g, 'k, 't> {
     pub(crate) alloc: Global,

@@ -8,17 +8,17 @@ use Rattle.ob0_run_machine.specs.declared.level.Level as code
 use Rattle.ob0_run_machine.specs.Evaluation.{Levels}
 
 abbrev mutual
-  -- an activation of the code, and those around it
+  -- the activation of a `Level`, and the activations around it
   pub levels_of : code.Level → Levels
   levels_of (code.Level' base addresses enclosing) =
       record { base = base; addresses = addresses.now } ∷ levels_after enclosing
 
-  -- the activations around one, if there are any
+  -- the activations around an activation; none around the module's
   pub levels_after : code.Held-Level-enclosing → Levels
   levels_after code.None' = []
   levels_after (code.Some' pointer l) = levels_of l
 
--- the activations that one of the code sees
+-- the activations that a `Level` sees, itself first; none without a `Level`
 abbrev pub levels_seen : Option (Bor code.Level) → Levels
 levels_seen None = []
 levels_seen (Some l) = levels_of l.now
