@@ -67,8 +67,8 @@ NamesAsked a answer =
     (named_in a.ask answer ≡ Some (a.uri, a.version))
     ⊎ ((edits_for a.uri a.ask answer ≡ []) ⊎ IsLayout a.ask)
 
--- Holds if the content, when its id is a number, answers the request with that number and mentions
--- that request's document (`NamesAsked`).
+-- Holds if the content has no number as its id, or it answers the request with that number and
+-- `NamesAsked` holds for the two.
 abbrev pub NamesItsAsk : List SentAsk → List ℕ → Type 0
 NamesItsAsk requested content =
     (answer : Data) (k : ℕ)
