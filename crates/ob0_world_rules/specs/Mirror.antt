@@ -1,5 +1,5 @@
--- States that once the server has taken the messages that wait for it, it has the editor's
--- documents.
+-- States that the server will have the editor's documents once it has taken the messages that wait
+-- for it.
 -- Rule: none; a law of the model of client and server.
 use Rattle.std.specs.Prelude.{◌≡◌, ℕ, List, option_map, fold}
 use Rattle.ob0_text.specs.OpenDocuments.{OpenDocuments, Document, InStep, document_at}
