@@ -1,4 +1,4 @@
--- Defines the request that begins a conversation.
+-- Defines the request `initialize`, which begins a conversation. Comments show the JSON.
 -- Rule: LSP 3.17, initialize.
 use Rattle.std.specs.Prelude.{true, false, codes}
 use Rattle.serde_json.specs.Data.{Data, boolean, string, array, object, no_items, item, Members, member, no_members}
@@ -50,7 +50,7 @@ initialize_message unit =
     (object (member (codes "capabilities") (object (capabilities_for unit)) no_members))
     no_members))))
 
--- returns the client as the server knows it after this `initialize`
+-- returns what the server knows about the client after this `initialize`
 abbrev pub client_for : Unit → Client
 client_for unit =
     record {

@@ -1,5 +1,5 @@
--- Defines the messages that an editor writes, as JSON values (LSP 3.17).
--- Members are in byte order of their names.
+-- Defines the messages that an editor writes, as JSON values (LSP 3.17). Comments show the JSON.
+-- Members are in the order of the bytes of their names.
 -- Rule: LSP 3.17, notifications and requests of a client; docs/PROTOCOL.md, JSON shapes 4.
 use Rattle.std.specs.Prelude.{ℕ, List, true, false, Bool, Option, Some, None, codes, string_bytes}
 use Rattle.serde_json.specs.Data.{Data, boolean, number, array, object, unsigned, no_items, member, no_members}
@@ -33,7 +33,7 @@ abbrev pub open_params : List ℕ → ℕ → List ℕ → Data
 open_params uri version contents =
     object (member (codes "textDocument") (opened_value uri version contents) no_members)
 
--- {"range":R,"text":t}; if the whole text changes, without `range`
+-- {"range":R,"text":t}, or {"text":t} if the whole text changes
 abbrev pub change_object : Option Range → List ℕ → Data
 change_object (Some range) new =
     object (member (codes "range") (range_value range.start range.end)

@@ -18,14 +18,15 @@ pub struct Applied {
 pub enum Applying {
     /// The editor has no answer with this number.
     NotHeld,
-    /// The answer was discarded: its document isn't the one that was asked about any more, or two edits share a
-    /// character.
+    /// The answer was discarded: its document has been changed, closed or reopened since the
+    /// request, or two edits share a character.
     Dropped,
     /// The edits were made. The content is the notification that tells the server.
     Made { applied: Applied, content: Vec<u8> },
 }
 
-/// Returns an applied edit with copies of the uri and the text before. `after` is the text after it.
+/// Returns an applied edit with these texts before and after it. The uri and the text before are
+/// copied.
 pub fn applied_edit(
     alloc: Global,
     uri: &str,

@@ -31,8 +31,9 @@ edited unit text edits =
 abbrev pub whole_text : List ℕ → TextChange
 whole_text text = record { range = None; text = text }
 
--- Returns the text after these changes, each made in the result of the one before. None if the text
--- is None or a change can't be made.
+-- Returns the text after these changes, each made in the result of the one before. None means that
+-- the text isn't known: a change of a range leaves it unknown, a change of the whole text makes it
+-- known.
 abbrev pub after_changes : Unit → Option (List ℕ) → List TextChange → Option (List ℕ)
 after_changes unit text changes = fold (changed_text unit) text changes
 
