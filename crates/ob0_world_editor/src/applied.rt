@@ -25,8 +25,7 @@ pub enum Applying {
     Made { applied: Applied, content: Vec<u8> },
 }
 
-/// Returns an applied edit with these texts before and after it. The uri and the text before are
-/// copied.
+/// Returns the record of an applied edit, with copies of the uri and of the text before it.
 pub fn applied_edit(
     alloc: Global,
     uri: &str,

@@ -29,7 +29,7 @@ use ob0_text::{Change, Edit, Unit, Whole};
 use std::alloc::{AllocError, Global};
 use std::marker::Model;
 
-/// A request that was sent, with the state that its document had then.
+/// A request that was sent, with the document's uri, text, opening and version at that time.
 #[derive(Drop)]
 pub struct SentAsk {
     pub ask: Ask,
@@ -46,7 +46,7 @@ pub struct HeldAnswer {
     pub edits: Vec<Edit>,
 }
 
-/// The edit of a document, of which `applied.after` is the new text, with the document's new
+/// An applied edit (`applied.after` is the new text of the document), with the document's new
 /// version and its opening.
 #[derive(Drop)]
 struct Rewritten {
@@ -55,7 +55,8 @@ struct Rewritten {
     opening: u64,
 }
 
-/// An editor, which counts positions in its unit.
+/// An editor: its open documents, the requests that it has sent, and the answers that it has. It
+/// counts positions in `unit`.
 #[derive(Drop)]
 pub struct Editor {
     alloc: Global,
