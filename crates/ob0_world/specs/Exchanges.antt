@@ -61,7 +61,7 @@ same_id (number_id n) (text_id t) = false
 same_id (text_id s) (number_id m) = false
 same_id (text_id s) (text_id t) = bytes_eq s t
 
--- the id of a request that the editor sent, and the number of the ask if the request is one
+-- the id of a request that the editor sent, and the number of the ask if the request is an ask
 pub record SentId : Type 0 where
   pub id : Id
   pub ask : Option ℕ

@@ -1,4 +1,5 @@
--- Defines client and server as the code stores them, and the results of a list of events.
+-- Defines the connection of an editor and a session, the world with its steps, and the results of a
+-- list of events.
 -- Rule: none; for contracts of `World`: a list of events, step by step.
 use Rattle.std.specs.Prelude.{◌≡◌, ◌<◌, ◌+◌, ◌++◌, ◌⊎◌, ⊤, ℕ, List, [], ◌∷◌, map, take, length, Bool, true, false, Option, Some}
 use Rattle.std.specs.Option.{option_to_list}
@@ -195,7 +196,8 @@ StepsFrom true old event seen new = ⊥
 abbrev pub WorldSteps : World → Event → Seen → World → Type 0
 WorldSteps old event seen new = StepsFrom old.ended old event seen new
 
--- states that the results and the exchanged contents are those before the step
+-- states that the results, the exchanged contents and the contents that wait for the editor are
+-- unchanged
 pub record SameHistory (old new : Connection) : Type 0 where
   pub applied : new.model.applied ≡ old.model.applied
   pub made : new.model.made ≡ old.model.made

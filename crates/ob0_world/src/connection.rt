@@ -1,4 +1,4 @@
-//! Connects an editor and a session by two queues, and makes each event happen.
+//! Connects an editor and a session by two queues, and performs the events.
 ghost use Rattle.std.specs.Prelude.{◌≡◌, ◌<◌, IfOk, OnErr, OnOk, map, option_map, option_and_then, string_bytes};
 ghost use Rattle.std.specs.Str.{chars};
 ghost use Rattle.std.specs.Vec.{vec_capacity, vec_len};

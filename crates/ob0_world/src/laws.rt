@@ -1,4 +1,4 @@
-//! States the laws about a client and a server with a session.
+//! Proves laws about an editor and a session: the versions in answers, and every exchange.
 ghost use Rattle.ob0_world.specs.Exchanges.{ACourseIsAnExchange, EveryExchangeHolds, EveryExchangeIsOfTheModel};
 ghost use Rattle.ob0_world.specs.Versions.{VersionsAreNamed, VersionsSuffice};
 

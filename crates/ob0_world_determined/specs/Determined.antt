@@ -133,8 +133,8 @@ ConversationIsServed =
     → MayServe result (flat_map frame taken) put
     → put ≡ flat_map frame sent
 
--- States that `serve`, fed with the frames of a conversation and then any bytes, writes the frames
--- of the contents that the session sent first. This holds unless `serve` returns `Memory` or
+-- States that `serve`, fed with the frames of a conversation and then any bytes, first writes the
+-- frames of the contents that the session sent. This holds unless `serve` returns `Memory` or
 -- `Write`. Each content taken has at most `max_content` bytes.
 abbrev pub ConversationIsServedFirst : Type 0
 ConversationIsServedFirst =

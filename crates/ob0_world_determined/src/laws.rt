@@ -1,4 +1,5 @@
-//! States the laws of the definitions that contracts cite.
+//! Proves that the server's input determines its output, and that `serve` writes the frames of a
+//! conversation.
 ghost use Rattle.ob0_world_determined.specs.Determined.{AListFits, ConversationIsServed, ConversationIsServedFirst, EndedConversationIsServed, OneAnswer, OneConversation, OneDiagnosis, OneOutput, OneReply, OneResult, OneTable};
 ghost use Rattle.ob0_world_determined.specs.Exchanged.{EveryExchangeIsServed};
 
@@ -85,9 +86,9 @@ pub fn a_conversation_is_served()
     written_is_read();
 }
 
-/// Proves that `serve`, fed with the frames of a conversation and then any bytes, writes the frames
-/// of the contents that the session sent first. Each content taken has at most `max_content` bytes.
-/// This holds unless `serve` returns `Memory` or `Write`.
+/// Proves that `serve`, fed with the frames of a conversation and then any bytes, first writes the
+/// frames of the contents that the session sent. Each content taken has at most `max_content`
+/// bytes. This holds unless `serve` returns `Memory` or `Write`.
 pub fn a_conversation_is_served_first()
     ensures { ConversationIsServedFirst }
 {
@@ -109,10 +110,11 @@ pub fn an_ended_conversation_is_served()
     written_is_read();
 }
 
-/// Proves the headline for `serve` and every editor that keeps ob0's rules. The guarantees of `HoldsOfExchange` hold.
-/// Fed with the frames of the contents that the session took, `serve` writes the frames of the contents that it sent.
-/// This holds unless `serve` returns `Memory` or `Write`, and if no content taken has more than `max_content` bytes. If
-/// it returns `Memory`, it has written the frames of the replies to the contents that it answered.
+/// Proves the headline for `serve` and every editor that keeps ob0's rules. The guarantees of
+/// `HoldsOfExchange` hold. Suppose that `serve` is fed with the frames of the contents that the
+/// session took, each of at most `max_content` bytes. Then `serve` writes the frames of the
+/// contents that the session sent, unless `serve` returns `Memory` or `Write`. If it returns
+/// `Memory`, it has written the frames of the replies to the contents that it answered.
 pub fn every_exchange_is_served()
     ensures { EveryExchangeIsServed }
 {

@@ -15,7 +15,7 @@ pub data Act : Type 0 where
   change_document : List ℕ → List TextChange → Act
   close_document : List ℕ → Act
   ask_about : List ℕ → Ask → Act
-  -- applies the answer with this number, or discards it
+  -- `apply` applies the answer with this number, `discard` discards it
   apply : ℕ → Act
   discard : ℕ → Act
 
@@ -39,7 +39,7 @@ abbrev pub counted : ℤ → ℕ
 counted (pos n) = n
 counted (negsuc n) = 0
 
--- returns the version that this editor gives a document after one with this version
+-- returns the version that follows this one: greater by 1, or 1 after a negative version
 abbrev pub next_version : ℤ → ℤ
 next_version version = pos (counted version + 1)
 
@@ -70,7 +70,8 @@ abbrev pub closes : Editor → List ℕ → Done
 closes e uri =
     sends (record e { documents = map_of.remove e.documents uri }) (notifies (Closed uri)) []
 
--- returns the result of a request about an open document, sent with the next number
+-- returns the result of asking about an open document: the request is stored and sent with the next
+-- number
 abbrev pub asks : Editor → List ℕ → Ask → Open → Done
 asks e uri ask d =
     let a : SentAsk = record {

@@ -46,7 +46,8 @@ without_others [] = []
 without_others (None ∷ queue) = without_others queue
 without_others (Some message ∷ queue) = message ∷ without_others queue
 
--- returns the notifications of a queue, that is the messages that open, change or close documents
+-- returns the notifications of a queue, which open, change or close documents, and leaves out the
+-- requests
 abbrev pub notes_among : List ToServer → List ToServer
 notes_among [] = []
 notes_among (notifies note ∷ queue) = notifies note ∷ notes_among queue
@@ -108,7 +109,7 @@ TakesNext w (Some message ∷ rest) new =
       made = w.made ++ made;
     })
 
--- returns the state after the editor has taken the first message that waits for it
+-- returns the state after the editor has taken the first message that waits for it, if there is one
 abbrev pub after_one : EditorAndServer → List (Option ToEditor) → EditorAndServer
 after_one w [] = w
 after_one w (None ∷ rest) = record w { to_editor = rest }
@@ -137,8 +138,8 @@ MayLead w (turn ∷ turns) new =
 -- states the guarantees for a state to which turns lead
 pub record HoldsWithEditor (w : EditorAndServer) : Type 0 where
   -- Each applied edit keeps the run. Each list of diagnostics is empty exactly when its text is a
-  -- well-typed module. If no message about a document waits for the server, the latest diagnostics
-  -- are of the present text.
+  -- well-typed module. If no message of the model waits for the server, the latest diagnostics are
+  -- of the present text.
   pub holds : Holds (as_model w)
   -- if no notification waits for the server, the latest diagnostics are of the present text, even
   -- if asks and messages outside the model still wait

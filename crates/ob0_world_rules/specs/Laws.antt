@@ -27,7 +27,8 @@ OneReading =
 
 -- ---- answers
 
--- states that these edits, with positions in this unit, make a well-typed module with the same run
+-- states that these edits, with positions in this unit, turn this well-typed text into a well-typed
+-- module with the same run
 pub record EditsPreserveRun (unit : Unit) (text : List ℕ) (edits : List Replacement) : Type 0 where
   pub before_fits : WellTypedText text
   pub after : List ℕ
@@ -52,7 +53,7 @@ AnswersAreOne =
 
 -- ---- events
 
--- states that an event leads to at most one state
+-- states that an event leads from a state to at most one state
 abbrev pub OneStep : Type 0
 OneStep =
     (w : ClientAndServer) (event : Event) (new other : ClientAndServer)
@@ -60,8 +61,8 @@ OneStep =
     → Happens w event other
     → new ≡ other
 
--- States that a list of events leads to at most one state, with its documents, queues, applied
--- edits and publications.
+-- States that a list of events leads from a state to at most one state. The states have documents,
+-- queues, applied edits and publications.
 abbrev pub OneCourse : Type 0
 OneCourse =
     (w : ClientAndServer) (events : List Event) (end other : ClientAndServer)

@@ -26,12 +26,12 @@ pub fn answers_are_one()
     ensures { AnswersAreOne }
 {}
 
-/// Proves that an event leads to at most one state.
+/// Proves that an event leads from a state to at most one state.
 pub fn one_step()
     ensures { OneStep }
 {}
 
-/// Proves that a list of events leads to at most one state.
+/// Proves that a list of events leads from a state to at most one state.
 pub fn one_course()
     ensures { OneCourse }
 {}
@@ -62,7 +62,8 @@ pub fn with_every_editor()
     ensures { WithEveryEditor }
 {}
 
-/// Proves that the model's editor keeps ob0's rules.
+/// Proves that the model's editor keeps ob0's rules, so that the guarantees for every editor cover
+/// it.
 pub fn the_model_is_one()
     ensures { TheModelIsOne }
 {}
