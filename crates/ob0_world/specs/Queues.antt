@@ -87,7 +87,8 @@ made_first held (m ∷ ms) = made_for held m
 
 -- ---- the whole
 
--- states that the contents that wait are messages, and that the session runs or has failed
+-- states that the waiting contents are messages, and that the session is running (`IsRunning`) or
+-- has failed
 pub record Sound (requested : List SentAsk) (to_server to_editor : Contents)
     (session : ServerState) : Type 0 where
   pub heard_all : All (IsHeard requested) to_server

@@ -107,8 +107,8 @@ pub record IsTied (w : Connection) : Type 0 where
       ≡ map Some w.model.to_editor
   pub documents : w.model.held ≡ w.wire.session.held
 
--- States that one event happens in the model, that it changes the session and the contents
--- (`MovesWire`), and that the two still match (`IsTied`).
+-- States that one event happens in the model and changes the session and the contents
+-- (`MovesWire`), and that the waiting contents are the model's messages after it (`IsTied`).
 pub record ConnectionStep (old : Connection) (event : Event) (new : Connection) : Type 0 where
   pub happens : Happens old.model event new.model
   pub moves : MovesWire event old.wire new.wire

@@ -1,4 +1,4 @@
-//! The result of applying an answer.
+//! Defines applied edits, and the result of applying an answer.
 ghost use Rattle.std.specs.Prelude.{◌≡◌, IfOk, string_bytes};
 ghost use Rattle.std.specs.Str.{chars};
 ghost use Rattle.ob0_world_editor.specs.Code.{applied_of};
@@ -21,7 +21,7 @@ pub enum Applying {
     /// The answer was discarded: its document has been changed, closed or reopened since the
     /// request, or two edits share a character.
     Dropped,
-    /// The edits were made. The content is the notification that tells the server.
+    /// The edits were made. The content is the notification of the new text for the server.
     Made { applied: Applied, content: Vec<u8> },
 }
 

@@ -14,7 +14,7 @@ use ob0_rpc::{
 use ob0_text::{Change, Indent, Position, Range};
 use std::alloc::AllocError;
 
-/// A JSON-RPC request.
+/// A JSON-RPC request. `I` is the type of its id.
 #[derive(Drop)]
 pub struct Request<'a, I, P> {
     pub id: I,
@@ -108,7 +108,7 @@ impl<'a> WriteJson for ContentChange<'a> {
     }
 }
 
-/// The changes of a document, in order.
+/// The changes of a document, in order, as a JSON array.
 #[derive(Drop)]
 pub struct ContentChanges<'a> {
     pub changes: &'a [Change],

@@ -1,4 +1,4 @@
-//! Reads a server's messages.
+//! Reads the server's messages: publications, and answers to asks.
 ghost use Rattle.std.specs.Prelude.{◌≡◌, IfOk, codes, option_map, option_and_then, map};
 ghost use Rattle.serde_json.specs.Find.{get, as_number, as_i64, as_array};
 ghost use Rattle.serde_json.specs.View.{view, items_view};
@@ -16,7 +16,7 @@ use ob0_text::Edit;
 use serde_json::Value;
 use std::alloc::{AllocError, Global};
 
-/// A message of a server.
+/// A message of the server that the editor uses: a publication, or the answer to an ask.
 #[derive(Drop)]
 pub enum Message {
     Published {

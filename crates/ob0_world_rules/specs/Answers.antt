@@ -22,8 +22,8 @@ use Rattle.ob0_world_rules.specs.Asks.{Ask, rename, inline_here, inline_all, for
 abbrev pub place_at : Unit → List ℕ → Position → ℕ
 place_at unit text position = offset_of (width_of unit) text position
 
--- holds if these edits inline the constant whose name is at this position: only there, or
--- everywhere
+-- Holds if these edits inline the constant whose name is at this position: only there, or
+-- everywhere.
 abbrev pub InlinesAt : Inlining → Unit → List ℕ → Position → List Edit → Type 0
 InlinesAt how unit text position edits =
     (found : Vec Edit Global)

@@ -8,7 +8,7 @@ use Rattle.ob0_world_rules.specs.Edited.{Replacement, edited, whole_text, after_
 use Rattle.ob0_world_rules.specs.Asks.{Ask}
 use Rattle.ob0_world_rules.specs.ClientAndServer.{Open, SentAsk, Answer, Editor, request_numbered, open_at, ToServer, notifies, requests, ToEditor, publishes, answers, Applied}
 
--- an act of the editor
+-- an act of the editor: about a document, or about an answer that the editor has
 pub data Act : Type 0 where
   -- the uri and the text
   open_document : List ℕ → List ℕ → Act

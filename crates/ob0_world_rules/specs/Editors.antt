@@ -16,7 +16,7 @@ pub record Revision : Type 0 where
   pub text : List ℕ
   pub how : List TextChange
 
--- a move of the editor
+-- a move of the editor: like an `Act`, but with any version, and with revisions as changes
 pub data Move : Type 0 where
   -- the uri, the version and the text
   to_open : List ℕ → ℤ → List ℕ → Move

@@ -68,7 +68,7 @@ as_model w =
 
 -- ---- what may happen
 
--- a turn
+-- a turn: one of the two acts, or takes a message
 pub data Turn : Type 0 where
   -- the editor makes a move
   editor_does : Move → Turn
