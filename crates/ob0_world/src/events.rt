@@ -3,7 +3,7 @@
 use ob0_text::Change;
 use ob0_world_editor::Ask;
 
-/// An event: an act of the editor, or one of the two takes a message.
+/// An event: the editor acts, or the server or the editor takes a message.
 #[derive(Debug, Drop)]
 pub enum Event {
     /// The editor opens a document, with version 1. If it is open already, nothing happens.

@@ -68,7 +68,7 @@ as_model w =
 
 -- ---- what may happen
 
--- a turn: one of the two acts, or takes a message
+-- a turn: the editor acts or sends another message, or the server or the editor takes a message
 pub data Turn : Type 0 where
   -- the editor makes a move
   editor_does : Move → Turn

@@ -5,7 +5,7 @@ use Rattle.ob0_world_rules.specs.ClientAndServer.{ToServer, ToEditor, Made, Clie
 use Rattle.ob0_world_rules.specs.Editing.{Act, Done, done_by, reads}
 use Rattle.ob0_world_rules.specs.Serving.{Replies}
 
--- an event: the editor acts, or one of the two takes a message
+-- an event: the editor acts, or the server or the editor takes a message
 pub data Event : Type 0 where
   -- the editor acts
   does : Act → Event
