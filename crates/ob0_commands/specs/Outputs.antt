@@ -1,4 +1,5 @@
--- The wrapped writer of a `TrackedWriter`, and its notes on failures and flushes.
+-- Defines the parts of a `TrackedWriter`: the wrapped writer, and whether it has been flushed or
+-- has failed.
 -- Rule: none; for contracts: a writer that remembers failures and flushes.
 use Rattle.std.specs.Prelude.{◌≡◌, ◌⊎◌, Bool, true}
 use Rattle.ob0_commands.specs.declared.printing.TrackedWriter.{TrackedWriter}

@@ -15,7 +15,8 @@ use Rattle.ob0_commands.specs.Statuses.{HasNoText, IsOfInput, StopsPrintingFault
 use Rattle.ob0_commands.specs.TextRuns.{PrintsRuns}
 
 -- Holds if `check` ends with this status. 0: the file has no diagnostics, and nothing is printed.
--- 1: its errors are printed and flushed. Any other status: a fault stopped the command.
+-- 1: its errors are printed and flushed. Any other status: a fault ended the command
+-- (`EndsByFault`).
 abbrev pub ChecksFile : {O : Type 0}
     → (contents : O → Option (List ℕ))
     → (is_flushed has_failed : O → Bool)

@@ -30,8 +30,8 @@ IsTextFile file = (length file ≤ max_text) × IsUtf8 file
 abbrev pub HasNoText : List ℕ → Type 0
 HasNoText file = (length file ≤ max_text) × ¬ (IsUtf8 file)
 
--- Holds if the fault is the reason why no diagnostics are printed: the file has no text, or
--- printing fails.
+-- Holds for the fault `Utf8` if the file isn't UTF-8 (`HasNoText`), and for `Write` and `Memory`
+-- otherwise.
 abbrev pub StopsPrintingFaults : List ℕ → FileFault → Type 0
 StopsPrintingFaults file f =
     ((f ≡ fault.Utf8) × HasNoText file) ⊎ (StopsPrinting f × ¬ (HasNoText file))
@@ -40,7 +40,7 @@ StopsPrintingFaults file f =
 abbrev pub AllocatesFor : List ℕ → FileFault → Type 0
 AllocatesFor file f = f ≡ fault.Memory → length file ≤ max_text
 
--- Holds if nothing was printed, or the fault is `Write`.
+-- Holds if the output is unchanged, or the fault is `Write`.
 abbrev pub PrintsNothing : {O : Type 0} → (before after : O) → FileFault → Type 0
 PrintsNothing before after f = f ≢ fault.Write → after ≡ before
 
@@ -75,8 +75,8 @@ HasNoInput file given input_failed = IsWellTypedModule file × HasNoNumbers give
 abbrev pub IsOfInput : (before after : Bool) → FileFault → Type 0
 IsOfInput before after f = f ≢ fault.Input → after ≡ before
 
--- Holds if the fault is the reason why no run is printed: there is no input for the module, the
--- file has no text, or printing fails.
+-- Holds if the fault is `Input` and the module has no valid input, or the fault is one that `check`
+-- may also have (`StopsPrintingFaults`).
 abbrev pub StopsRunning : List ℕ → Option (List ℕ) → (input_failed : Bool) → FileFault → Type 0
 StopsRunning file given input_failed f =
     ((f ≡ fault.Input) × HasNoInput file given input_failed) ⊎ StopsPrintingFaults file f

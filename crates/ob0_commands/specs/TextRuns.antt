@@ -40,7 +40,7 @@ pub record PrintsRun (file : List ℕ) (given : Option (List ℕ)) (c t : ℕ)
   pub runs : TextRunsAs file input c t r
   pub printed : Appends before after (output_text r.output)
 
--- Holds if the output of a run that reaches the end of the module's body is printed.
+-- Holds if the printed output is that of a run that reaches the end of the module's body.
 abbrev pub PrintsDone : List ℕ
     → Option (List ℕ)
     → ℕ
@@ -51,8 +51,8 @@ abbrev pub PrintsDone : List ℕ
 PrintsDone file given c t before after =
     (r : Run) × PrintsRun file given c t before after r × (r.ending ≡ end_in end.Done)
 
--- Holds if the output of a run with another end is printed, and the line of that end on standard
--- error.
+-- Holds if the output of a run with an end other than Done is printed, and the line of that end is
+-- printed on standard error.
 pub record PrintsEnded (file : List ℕ) (given : Option (List ℕ)) (c t : ℕ)
     (before after : Option (List ℕ)) (Said : Option (List ℕ) → Type 0) : Type 0 where
   pub r : Run
@@ -62,8 +62,9 @@ pub record PrintsEnded (file : List ℕ) (given : Option (List ℕ)) (c t : ℕ)
   pub ends : r.ending ≡ end_in last
   pub said : Said (end_line last)
 
--- Holds in two cases. The file's errors are printed, and nothing on standard error. Or the output
--- of a run with an end other than Done is printed, and the line of that end on standard error.
+-- Holds in two cases. Either the file's errors are printed, and nothing on standard error. Or the
+-- output of a run with an end other than Done is printed, and the line of that end on standard
+-- error.
 abbrev pub PrintsOther : List ℕ
     → Option (List ℕ)
     → ℕ

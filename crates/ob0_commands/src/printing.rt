@@ -1,9 +1,10 @@
 //! Prints whole texts.
 //!
-//! The commands print to an `Output`: a writer that remembers whether it has been flushed since the last write, and
-//! whether it has failed. std's contracts of `Write` say neither, but the contract of `print` needs both.
-//! `TrackedWriter` makes an `Output` of any writer, including standard error. `O.contents` is None for a writer whose
-//! bytes aren't known, as in `Write`; its clauses then say nothing about the bytes.
+//! The commands print to an `Output`: a writer that remembers whether it has been flushed since the
+//! last write, and whether it has failed. std's contracts of `Write` mention neither fact, but the
+//! contract of `print` needs both. `TrackedWriter` makes an `Output` of any writer, including
+//! standard error. `O.contents` is None for a writer whose bytes aren't known, as in `Write`. The
+//! clauses then say nothing about the bytes.
 //!
 //! After a command has printed, its output is flushed. If a name is refused, the output is unchanged, and whether it is
 //! flushed isn't known (`IsFlushedOrUnchanged`). `check` and `rename` print only once, so their contracts follow from
@@ -20,7 +21,8 @@ ghost use Rattle.ob0_commands.specs.Said.{Says};
 use crate::faults::FileFault;
 use std::io::{self, Write};
 
-/// The most bytes that one read asks for, and the most that are collected before they are written.
+/// The size of the two buffers, in bytes: the one into which a file or an input is read, and the
+/// one in which output is collected before it is written.
 pub(crate) const PIECE_SIZE: usize = 8192;
 
 /// A writer that remembers whether it has been flushed since the last write, and whether it has failed.

@@ -1,8 +1,9 @@
 //! Reads the bytes of a file and of an input.
 //!
-//! The commands read from an `Input`: a reader that remembers whether it has failed. So the contracts can tie the
-//! faults `File` and `Input` to a failed read (`StopsFor`). `TrackedReader` makes an `Input` of any reader. If the
-//! bytes that a reader has left aren't known (`Read::remaining`), the contracts don't say which numbers it has.
+//! The commands read from an `Input`: a reader that remembers whether it has failed. So the
+//! contracts can state that the faults `File` and `Input` come from a failed read (`StopsFor`).
+//! `TrackedReader` makes an `Input` of any reader. If the remaining bytes of a reader aren't known
+//! (`Read::remaining`), the contracts don't say which numbers are read.
 
 ghost use Rattle.std.specs.Prelude.{◌≡◌, ◌≤◌, ◌<◌, ◌||◌, ◌⊎◌, Bool, true, false, is_err, IfOk, OnOk, IfErr, IfSome, length, suc};
 ghost use Rattle.std.specs.Io.{ReadsAtMost};

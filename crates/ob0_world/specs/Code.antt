@@ -35,7 +35,7 @@ publication_of m =
       empty = m.empty;
     }
 
--- returns the bytes of each content
+-- returns contents as lists of bytes
 abbrev pub bytes : List (Vec ℕ Global) → List (List ℕ)
 bytes contents = map (λ v. v.items) contents
 

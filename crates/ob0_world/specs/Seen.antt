@@ -40,13 +40,13 @@ act_seen e (apply k) =
     else nothing
 act_seen e (discard k) = if is_some (kept_answer k e.answers) then drops k else nothing
 
--- returns the report on the server's event: the number of messages that it sent, if a message
--- waited for it
+-- Returns the report on the server's event. If a message waited for the server, the report is the
+-- number of messages that it sent, by which the editor's queue grew from `before` to `after`.
 abbrev pub served_seen : List ToServer → List ToEditor → List ToEditor → Seen
 served_seen [] before after = nothing
 served_seen (message ∷ rest) before after = served (length after - length before)
 
--- returns the report on the message that the editor has read, if one waited for it
+-- returns the report on the first message of the queue, which the editor takes, if there is one
 abbrev pub taken_seen : List ToEditor → Seen
 taken_seen [] = nothing
 taken_seen (publishes uri version empty ∷ rest) = published uri empty

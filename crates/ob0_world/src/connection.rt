@@ -1,4 +1,4 @@
-//! Connects an editor and a session by two queues, and makes each event happen.
+//! Connects an editor and a session by two queues, and performs the events.
 ghost use Rattle.std.specs.Prelude.{◌≡◌, ◌<◌, IfOk, OnErr, OnOk, map, option_map, option_and_then, string_bytes};
 ghost use Rattle.std.specs.Str.{chars};
 ghost use Rattle.std.specs.Vec.{vec_capacity, vec_len};
@@ -26,7 +26,8 @@ use std::alloc::{AllocError, Global};
 use std::collections::VecDeque;
 use std::marker::Model;
 
-/// An editor and a session, the contents that wait for each, the contents that have passed, and the results so far.
+/// An editor and a session, with the contents that wait for each, the contents that each has taken,
+/// and the results so far.
 #[derive(Drop)]
 pub struct Connection<T: TextStore> {
     alloc: Global,
@@ -61,8 +62,8 @@ impl<T: TextStore> Model for Connection<T> {
 }
 
 impl<T: TextStore> Connection<T> {
-    /// Returns an editor without documents and a session that the editor has initialized. Both count positions in this
-    /// unit.
+    /// Returns a connection of an editor without documents and a session that this editor has
+    /// initialized. Both count positions in this unit.
     pub fn new(alloc: Global, unit: Unit) -> Result<Connection<T>, AllocError>
         ensures { IfOk result (Begins unit) }
     {
@@ -84,8 +85,8 @@ impl<T: TextStore> Connection<T> {
         })
     }
 
-    /// Does nothing. Its contract is a law: the contents that wait are the messages of the model. It is called only for
-    /// that.
+    /// Does nothing, and is called only for its contract, which is a law: the waiting contents are
+    /// the messages of the model.
     pub(crate) fn contents_say_messages(&self)
         ensures { IsTied self.now }
     {
@@ -305,7 +306,8 @@ fn answer<T: TextStore>(
     }
 }
 
-/// Returns the publication with a version that the first of these contents is, if it is one.
+/// Returns the first of these contents as a publication, with the present text of its document.
+/// None if it isn't a publication with a version, or if that document isn't open or is out of step.
 fn first_made<T: TextStore>(
     alloc: Global,
     editor: &Editor,
@@ -350,7 +352,8 @@ fn made_of_content<T: TextStore>(
     }
 }
 
-/// Returns the publication with the present text of its document. None if that document isn't open or is out of step.
+/// Returns a publication with these parts and the present text of its document. None if that
+/// document isn't open or is out of step.
 fn made_with<T: TextStore>(
     alloc: Global,
     documents: &Documents<T>,

@@ -1,9 +1,9 @@
-//! The events of a client and a server, and the report on each event.
+//! Defines the events of an editor and a server, and the report on each event.
 
 use ob0_text::Change;
 use ob0_world_editor::Ask;
 
-/// One event of the client or the server.
+/// An event: the editor acts, or the server or the editor takes a message.
 #[derive(Debug, Drop)]
 pub enum Event {
     /// The editor opens a document, with version 1. If it is open already, nothing happens.
@@ -23,7 +23,7 @@ pub enum Event {
     Discard { k: u64 },
 }
 
-/// The report on an event.
+/// The report on an event, which `World::step` returns.
 #[derive(Debug, Drop)]
 pub enum Seen {
     /// Nothing happened.

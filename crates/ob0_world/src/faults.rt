@@ -1,4 +1,4 @@
-//! The faults of a world: an allocation fails.
+//! The faults of a world. Each comes from a failed allocation.
 
 use crate::played::Played;
 use thiserror::Error;

@@ -1,4 +1,4 @@
-//! The results of a list of events.
+//! Defines the results of playing a list of events.
 
 use ob0_world_editor::Applied;
 use std::collections::VecDeque;

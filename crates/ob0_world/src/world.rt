@@ -3,13 +3,14 @@
 //! A `Connection` has two parts. Its model is a client and a server by the rules (`ClientAndServer`): documents and
 //! messages. Its `Wire` is the session and all contents, those taken and those that wait, in each direction.
 //!
-//! `MovesWire` states what each event does to the session and the contents, and `IsTied` joins the two parts.
-//! (`Connection::contents_say_messages` is called only for its contract.) The contract of a step is by cases of the
-//! world before it (`WorldSteps`, `WorldFails`).
+//! `MovesWire` states what each event does to the session and the contents, and `IsTied` joins the
+//! two parts. (`Connection::contents_say_messages` is called only for its contract.) The contract
+//! of a step distinguishes whether the world had ended before it (`WorldSteps`, `WorldFails`).
 //!
-//! `Plays` states the headline, and the connection's course (`ConnectionCourse`) from a session that has begun
-//! (`Begins`). The code returns the contents that passed. So even a body without a session would have to return the
-//! contents of a conversation.
+//! `Plays` states the headline, and that the events are a course of the connection
+//! (`ConnectionCourse`) that starts with an initialized session (`Begins`). The code returns the
+//! exchanged contents. So even a body without a session would have to return the contents of a
+//! conversation.
 ghost use Rattle.std.specs.Prelude.{◌≡◌, ◌<◌, ◌-◌, ◌^◌, [], length, IfOk, OnOk, IfErr};
 ghost use Rattle.ob0_text.specs.declared.position_types.Unit.TheVariants.{Utf16};
 ghost use Rattle.ob0_world_rules.specs.Headline.{Holds};
@@ -113,7 +114,8 @@ impl<T: TextStore> World<T> {
         }
     }
 
-    /// Returns the applied edits, the publications and the contents that passed, up to the last step that returned Ok.
+    /// Returns the applied edits, the publications and the exchanged contents, up to the last step
+    /// that returned Ok.
     pub fn into_played(self) -> Played
         ensures come { HasCome self.connection.model result }
         ensures passed { HasPassed self.connection.wire result }

@@ -16,11 +16,12 @@ use Rattle.ob0_session.specs.declared.serving.ServeFault.TheVariants.{BadHead, T
 
 -- ---- diagnostics
 
--- holds if two readings of a module have the same tokens, and the same tree over them
+-- holds if two parsed modules have the same tokens and the same tree
 abbrev pub AreOneModule : Parsed → Parsed → Type 0
 AreOneModule m n = (m.source ≡ n.source) × (tree_of m ≡ tree_of n)
 
--- states that two tables of ordinals of one module have the same ordinal, or none, at each token
+-- states that two tables of ordinals for the same module are equal at each token: both have the
+-- same ordinal, or both have none
 abbrev pub OneTable : Type 0
 OneTable =
     (r q : Resolution) → IsResolution r → IsResolution q
@@ -35,7 +36,7 @@ OneDiagnosis =
 
 -- ---- replies
 
--- states that a reply determines the contents that are sent for it
+-- states that a reply determines the contents that the session sends for it
 abbrev pub OneReply : Type 0
 OneReply =
     (reply : Reply) (sent other : List (List ℕ))
@@ -65,11 +66,12 @@ MayServe result taken put =
     (reader_failed : Bool) × (writer_failed : Bool)
     × Serves result taken put ⊤ ⊤ reader_failed writer_failed ⊤
 
--- holds if a result is neither `Memory` nor `Write`
+-- holds if the result is neither `Memory` nor `Write`, so that all output has been written
 abbrev pub IsWritten : Result ℕ ServeFault → Type 0
 IsWritten result = (result ≢ Err Memory) × (result ≢ Err Write)
 
--- holds if the bytes read led to the result: an `exit`, the end of the input, or a bad head
+-- holds if the bytes that were read decide the result: it comes from an `exit`, the end of the
+-- input, or a bad head
 abbrev pub IsOfBytes : Result ℕ ServeFault → Type 0
 IsOfBytes (Ok status) = ⊤
 IsOfBytes (Err BadHead) = ⊤
@@ -79,7 +81,7 @@ IsOfBytes (Err TooManyReads) = ⊥
 IsOfBytes (Err Write) = ⊥
 IsOfBytes (Err Memory) = ⊥
 
--- holds if an `exit` or a bad head came, after which later bytes make no difference
+-- holds if the result comes from an `exit` or a bad head, so that later bytes make no difference
 abbrev pub IsDecided : Result ℕ ServeFault → List ℕ → List ℕ → Type 0
 IsDecided (Ok status) taken put = EndsWith status taken put
 IsDecided (Err BadHead) taken put = ⊤
@@ -89,9 +91,10 @@ IsDecided (Err TooManyReads) taken put = ⊥
 IsDecided (Err Write) taken put = ⊥
 IsDecided (Err Memory) taken put = ⊥
 
--- States that the output for the first bytes of an input is a prefix of the output for more of it.
--- The call for more must return neither `Memory` nor `Write`. If the first call returns neither of
--- them, the outputs are equal for the same input, and after an `exit` or a bad head.
+-- States that the output of `serve` for the first bytes of an input is a prefix of its output for
+-- more of that input. The call for more must return neither `Memory` nor `Write`. Suppose that the
+-- first call returns neither of them too. Then the outputs are equal if the inputs are equal, or if
+-- an `exit` or a bad head has ended the first call.
 abbrev pub OneOutput : Type 0
 OneOutput =
     (taken more put all : List ℕ) (result end : Result ℕ ServeFault) → IsWritten end
@@ -99,9 +102,9 @@ OneOutput =
     → (unwritten : List ℕ) × (all ≡ put ++ unwritten)
     × (IsWritten result → IsDecided result taken put ⊎ (more ≡ []) → unwritten ≡ [])
 
--- States that the result is the same for the same bytes. It is also the same for more of the input,
--- if an `exit` or a bad head came. The results `Read`, `TooManyReads`, `Write` and `Memory` are
--- excepted.
+-- States that `serve` returns the same result for the same bytes. If an `exit` or a bad head
+-- decided the result, it is also the same for a longer input. The results `Read`, `TooManyReads`,
+-- `Write` and `Memory` are excepted.
 abbrev pub OneResult : Type 0
 OneResult =
     (taken more put all : List ℕ) (result end : Result ℕ ServeFault)
@@ -109,7 +112,8 @@ OneResult =
     → MayServe result taken put → MayServe end (taken ++ more) all
     → IsDecided result taken put ⊎ (more ≡ []) → result ≡ end
 
--- states that it can't be that no list of contents fits a stream
+-- States that each list of bytes can be read as a list of contents and a rest (`Frames`). The
+-- formula is a double negation.
 abbrev pub AListFits : Type 0
 AListFits =
     (bytes : List ℕ)
@@ -129,9 +133,9 @@ ConversationIsServed =
     → MayServe result (flat_map frame taken) put
     → put ≡ flat_map frame sent
 
--- States that `serve`, fed with a longer input that begins with these frames, writes the frames of
--- the conversation first. This holds unless it returns `Memory` or `Write`. Each content taken has
--- at most `max_content` bytes.
+-- States that `serve`, fed with the frames of a conversation and then any bytes, first writes the
+-- frames of the contents that the session sent. This holds unless `serve` returns `Memory` or
+-- `Write`. Each content taken has at most `max_content` bytes.
 abbrev pub ConversationIsServedFirst : Type 0
 ConversationIsServedFirst =
     (taken sent : List (List ℕ)) (after : ServerState)
@@ -141,8 +145,10 @@ ConversationIsServedFirst =
     → MayServe result (flat_map frame taken ++ more) put
     → (later : List ℕ) × (put ≡ flat_map frame sent ++ later)
 
--- States that for a longer input that begins with the frames of a conversation that ended `serve` writes
--- the frames of what was sent and no byte more, and returns the status with which it ended.
+-- States that `serve`, fed with the frames of a conversation that ended and then any bytes, writes
+-- the frames of the contents that the session sent, and no more. It returns the status with which
+-- the conversation ended. This holds unless `serve` returns `Memory` or `Write`. Each content taken
+-- has at most `max_content` bytes.
 abbrev pub EndedConversationIsServed : Type 0
 EndedConversationIsServed =
     (taken sent : List (List ℕ)) (after : ServerState) (status : ℕ)

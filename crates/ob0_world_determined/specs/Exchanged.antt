@@ -13,8 +13,8 @@ use Rattle.ob0_session_server.specs.Answers.{ServerState, Conversation}
 use Rattle.ob0_world.specs.Exchanges.{Exchange, BeginsExchange, ExchangeLeads, IsShutdown, IsExit, HoldsOfExchange}
 use Rattle.ob0_world_determined.specs.Determined.{MayServe, IsWritten}
 
--- Relates an exchange of a session and an editor that keeps ob0's rules to the bytes that `serve`
--- writes.
+-- States the guarantees for an exchange of a session and an editor that keeps ob0's rules, and for
+-- the bytes that `serve` writes for it.
 pub record ServedExchange (begin now : Exchange) : Type 0 where
   pub holds : HoldsOfExchange begin now
   -- Fed with the frames of the taken contents, `serve` writes the frames of the sent contents.
@@ -23,7 +23,7 @@ pub record ServedExchange (begin now : Exchange) : Type 0 where
       → (put : List ℕ) (result : Result ℕ ServeFault) → IsWritten result
       → MayServe result (flat_map frame now.wire.taken) put
       → put ≡ flat_map frame (now.wire.got ++ now.wire.to_editor)
-  -- for a longer input `serve` writes the same frames first
+  -- If more bytes follow the frames in the input, `serve` writes the same frames first.
   pub written_first : All (λ content. length content ≤ max_content) now.wire.taken
       → (more put : List ℕ) (result : Result ℕ ServeFault) → IsWritten result
       → MayServe result (flat_map frame now.wire.taken ++ more) put
@@ -37,8 +37,8 @@ pub record ServedExchange (begin now : Exchange) : Type 0 where
       → (more put : List ℕ) (result : Result ℕ ServeFault) → IsWritten result
       → MayServe result (flat_map frame (now.wire.taken ++ shutdown ∷ exit ∷ []) ++ more) put
       → (put ≡ flat_map frame ((now.wire.got ++ now.wire.to_editor) ++ sent)) × (result ≡ Ok 0)
-  -- If `serve` returns `Memory`, it has answered the first contents that it read. If these are the
-  -- contents that the session took, it has written the same frames.
+  -- If `serve` returns `Memory`, it has answered a first part of the contents (`PrefixServed`). If
+  -- these are the contents that the session took, it has written the same frames.
   pub in_part : (taken put : List ℕ) (part : PrefixServed taken put)
       → part.answered ≡ now.wire.taken
       → put ≡ flat_map frame (now.wire.got ++ now.wire.to_editor)

@@ -1,4 +1,5 @@
-//! States the laws of the definitions that contracts cite.
+//! Proves that the server's input determines its output, and that `serve` writes the frames of a
+//! conversation.
 ghost use Rattle.ob0_world_determined.specs.Determined.{AListFits, ConversationIsServed, ConversationIsServedFirst, EndedConversationIsServed, OneAnswer, OneConversation, OneDiagnosis, OneOutput, OneReply, OneResult, OneTable};
 ghost use Rattle.ob0_world_determined.specs.Exchanged.{EveryExchangeIsServed};
 
@@ -7,7 +8,8 @@ use ob0_frame::laws::{feeding_is_determined, nothing_is_fed, written_is_read};
 use ob0_scan::laws::{one_report, one_scan};
 use ob0_world::laws::every_exchange_holds;
 
-/// Proves that two tables of ordinals of one module have the same ordinal, or none, at each token.
+/// Proves that two tables of ordinals for the same module are equal at each token: both have the
+/// same ordinal, or both have none.
 pub fn one_table()
     ensures { OneTable }
 {}
@@ -22,7 +24,7 @@ pub fn one_diagnosis()
     one_refusal();
 }
 
-/// Proves that a reply determines the contents that are sent for it.
+/// Proves that a reply determines the contents that the session sends for it.
 pub fn one_reply()
     ensures { OneReply }
 {
@@ -44,9 +46,11 @@ pub fn one_conversation()
     one_answer();
 }
 
-/// Proves that the output for the first bytes of an input is a prefix of the output for more of it. The call for more
-/// must return neither `Memory` nor `Write`. If the first call returns neither of them, the outputs are equal for the
-/// same input, and after an `exit` or a bad head. So it makes no difference how an input is cut into pieces.
+/// Proves that the output of `serve` for the first bytes of an input is a prefix of its output for
+/// more of that input. The call for more must return neither `Memory` nor `Write`. Suppose that the
+/// first call returns neither of them too. Then the outputs are equal if the inputs are equal, or
+/// if an `exit` or a bad head has ended the first call. So it makes no difference how an input is
+/// cut into pieces.
 pub fn one_output()
     ensures { OneOutput }
 {
@@ -54,8 +58,9 @@ pub fn one_output()
     feeding_is_determined();
 }
 
-/// Proves that `serve` returns the same result for the same bytes. It also does for more of the input, if an `exit` or
-/// a bad head came. The results `Read`, `TooManyReads`, `Write` and `Memory` are excepted.
+/// Proves that `serve` returns the same result for the same bytes. If an `exit` or a bad head
+/// decided the result, it is also the same for a longer input. The results `Read`, `TooManyReads`,
+/// `Write` and `Memory` are excepted.
 pub fn one_result()
     ensures { OneResult }
 {
@@ -63,8 +68,8 @@ pub fn one_result()
     feeding_is_determined();
 }
 
-/// Proves that a stream can't be without a list of contents. So a law about all its lists of contents is about at least
-/// one.
+/// Proves that each list of bytes can be read as a list of contents and a rest. So a law about all
+/// its lists of contents is about at least one.
 pub fn a_list_fits()
     ensures { AListFits }
 {}
@@ -81,9 +86,9 @@ pub fn a_conversation_is_served()
     written_is_read();
 }
 
-/// Proves that `serve`, fed with a longer input, writes the frames of a conversation first. The input begins with the
-/// frames of the contents that the session took, each of at most `max_content` bytes. This holds unless `serve` returns
-/// `Memory` or `Write`.
+/// Proves that `serve`, fed with the frames of a conversation and then any bytes, first writes the
+/// frames of the contents that the session sent. Each content taken has at most `max_content`
+/// bytes. This holds unless `serve` returns `Memory` or `Write`.
 pub fn a_conversation_is_served_first()
     ensures { ConversationIsServedFirst }
 {
@@ -93,9 +98,9 @@ pub fn a_conversation_is_served_first()
     written_is_read();
 }
 
-/// States that `serve`, fed with a longer input that begins with the frames of a conversation that ended, writes the
-/// frames of the contents that the session sent, and no more. It returns the status with which the conversation ended.
-/// This holds unless `serve` returns `Memory` or `Write`.
+/// Proves that `serve`, fed with the frames of a conversation that ended and then any bytes, writes
+/// the frames of the contents that the session sent, and no more. It returns the status with which
+/// the conversation ended. This holds unless `serve` returns `Memory` or `Write`.
 pub fn an_ended_conversation_is_served()
     ensures { EndedConversationIsServed }
 {
@@ -105,10 +110,11 @@ pub fn an_ended_conversation_is_served()
     written_is_read();
 }
 
-/// Proves the headline for `serve` and every editor that keeps ob0's rules. The guarantees of `HoldsOfExchange` hold.
-/// Fed with the frames of the contents that the session took, `serve` writes the frames of the contents that it sent.
-/// This holds unless `serve` returns `Memory` or `Write`, and if no content taken has more than `max_content` bytes. If
-/// it returns `Memory`, it has written the frames of the replies to the contents that it answered.
+/// Proves the headline for `serve` and every editor that keeps ob0's rules. The guarantees of
+/// `HoldsOfExchange` hold. Suppose that `serve` is fed with the frames of the contents that the
+/// session took, each of at most `max_content` bytes. Then `serve` writes the frames of the
+/// contents that the session sent, unless `serve` returns `Memory` or `Write`. If it returns
+/// `Memory`, it has written the frames of the replies to the contents that it answered.
 pub fn every_exchange_is_served()
     ensures { EveryExchangeIsServed }
 {

@@ -1,4 +1,4 @@
-//! The documents that are open in the editor.
+//! Stores the documents that are open in the editor.
 ghost use Rattle.std.specs.Prelude.{◌≡◌, pos, IfOk, OnErr, OnOk};
 ghost use Rattle.std.specs.Option.{option_map};
 ghost use Rattle.std.specs.Str.{chars};

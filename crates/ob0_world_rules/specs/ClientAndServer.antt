@@ -11,7 +11,7 @@ use Rattle.ob0_world_rules.specs.Asks.{Ask}
 
 -- ---- the editor
 
--- a document that is open in the editor; each opening has its own number
+-- a document that is open in the editor: its version, its text, and the number of its opening
 pub record Open : Type 0 where
   pub version : ℤ
   pub text : List ℕ
@@ -21,8 +21,7 @@ pub record Open : Type 0 where
 abbrev pub EditorDocuments : Type 0
 EditorDocuments = map_of.FinMap (slice_cmp nat_cmp) Open
 
--- a request that was sent, with its document and that document's text, opening and version at that
--- time
+-- a request that was sent: the ask, and the document's uri, text, opening and version at that time
 pub record SentAsk : Type 0 where
   pub ask : Ask
   pub uri : List ℕ

@@ -1,5 +1,5 @@
--- States that formatting has an answer for each text, so that only renames and inlinings are supposed to
--- have answers.
+-- States that formatting has an answer for each text. So the law that courses exist needs to
+-- suppose answers only for renames and inlinings.
 -- Rule: docs/PROTOCOL.md, Requests on documents 8.
 use Rattle.std.specs.Prelude.{⊤, List, All}
 use Rattle.ob0_text.specs.declared.edits.Indent.{Indent}
@@ -10,18 +10,18 @@ use Rattle.ob0_world_rules.specs.Editing.{open_document, change_document, close_
 use Rattle.ob0_world_rules.specs.Happens.{Event, does, serve, take_message, Course}
 use Rattle.ob0_world_rules.specs.Laws.{HasAnswers}
 
--- states that for each text, unit and indent it can't be that nothing answers a request for formatting
+-- States that a request for formatting has an answer for each text, unit and indent (`HasAnswers`).
 abbrev pub FormattingHasAnswers : Type 0
 FormattingHasAnswers = (indent : Indent) → HasAnswers (format indent)
 
--- states that a rename or an inlining has answers; nothing is supposed of a formatting
+-- holds if the ask has answers; always holds for a formatting
 abbrev pub IsSupposedToHaveAnswers : Ask → Type 0
 IsSupposedToHaveAnswers (rename position name) = HasAnswers (rename position name)
 IsSupposedToHaveAnswers (inline_here position) = HasAnswers (inline_here position)
 IsSupposedToHaveAnswers (inline_all position) = HasAnswers (inline_all position)
 IsSupposedToHaveAnswers (format indent) = ⊤
 
--- states that the ask of this event, if it is a rename or an inlining, has answers
+-- holds if the event isn't a rename or an inlining, or if its ask has answers
 abbrev pub IsSupposed : Event → Type 0
 IsSupposed (does (open_document uri text)) = ⊤
 IsSupposed (does (change_document uri how)) = ⊤
@@ -32,8 +32,8 @@ IsSupposed (does (discard k)) = ⊤
 IsSupposed serve = ⊤
 IsSupposed take_message = ⊤
 
--- states that it can't be that a list of events has no course, if its renames and inlinings have
--- answers
+-- States that a list of events has a course if its renames and inlinings have answers. The formula
+-- is a double negation.
 abbrev pub ACourseFitsFormatting : Type 0
 ACourseFitsFormatting =
     (unit : Unit) (events : List Event)

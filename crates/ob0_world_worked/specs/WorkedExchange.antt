@@ -18,7 +18,7 @@ use Rattle.ob0_world_worked.specs.WorkedAnswers.{on_line}
 abbrev pub uri : List ℕ
 uri = codes "file:///m.mod"
 
--- the text after n is inlined everywhere
+-- the worked text after n has been inlined everywhere
 abbrev pub inlined_text : List ℕ
 inlined_text =
     line (codes "MODULE M;")
@@ -31,7 +31,7 @@ inlined_text =
     ++ (line (codes "  Write(x)")
     ++ line (codes "END M."))))))))
 
--- the edits as changes of ranges, the later place first
+-- the edits of the inlining as changes of ranges, with the later range first
 abbrev pub changes : List TextChange
 changes =
     record { range = Some (on_line 6 7 8); text = codes "2" }
@@ -101,8 +101,9 @@ says_change =
 
 -- ---- the law
 
--- States that there is such an exchange. The session has taken these messages, the last one waits for
--- it, and the editor has applied one edit.
+-- States that these turns lead from the beginning to an exchange in which the session has taken
+-- five messages. The notification of the change waits for the session, and the editor has applied
+-- one edit.
 pub record AWorkedExchange : Type 0 where
   pub first : Exchange
   pub last : Exchange

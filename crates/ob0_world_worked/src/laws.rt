@@ -1,4 +1,5 @@
-//! States laws about one text, its worked answers and a worked exchange; and laws that formatting has answers.
+//! Proves laws about one text (`worked_text`): its worked answers and a worked exchange. Also
+//! proves that formatting has answers.
 ghost use Rattle.ob0_world_worked.specs.Formatting.{ACourseFitsFormatting, FormattingHasAnswers};
 ghost use Rattle.ob0_world_worked.specs.WorkedExchange.{AWorkedExchange};
 ghost use Rattle.ob0_world_worked.specs.WorkedAnswers.{ACapture, ARename, AnInlining, AnInliningEverywhere};
@@ -10,7 +11,8 @@ use ob0_language_types::laws::constants_are_alone;
 use ob0_layout::laws::{gaps_make_the_layout, lexemes_stay, module_stays};
 use ob0_world_rules::laws::{a_course_fits, answers_are_one};
 
-/// States that a rename of the worked text's variable has these edits as its answer, and no others.
+/// Proves that renaming variable x of the worked text to y is answered by three edits, and by no
+/// others.
 pub fn a_rename()
     ensures { ARename }
 {
@@ -18,14 +20,16 @@ pub fn a_rename()
     answers_are_one();
 }
 
-/// States that a rename that would capture a call is refused, with the range of the call, and has no edits.
+/// Proves that renaming x to Write is refused, because it would capture a call of Write. The
+/// refusal has the range of the call, and the answer has no edits.
 pub fn a_capture()
     ensures { ACapture }
 {
     answers_are_one();
 }
 
-/// States that inlining the worked text's constant at its use has this edit as its answer, and no other.
+/// Proves that inlining constant n of the worked text at its use is answered by one edit, and by no
+/// other.
 pub fn an_inlining()
     ensures { AnInlining }
 {
@@ -34,7 +38,7 @@ pub fn an_inlining()
     answers_are_one();
 }
 
-/// States that inlining the constant everywhere has these edits as its answer, and no others.
+/// Proves that inlining constant n everywhere is answered by two edits, and by no others.
 pub fn an_inlining_everywhere()
     ensures { AnInliningEverywhere }
 {
@@ -43,7 +47,7 @@ pub fn an_inlining_everywhere()
     answers_are_one();
 }
 
-/// States that a request for formatting has an answer for each text.
+/// Proves that a request for formatting has an answer for each text.
 pub fn formatting_has_answers()
     ensures { FormattingHasAnswers }
 {
@@ -52,7 +56,7 @@ pub fn formatting_has_answers()
     gaps_make_the_layout();
 }
 
-/// States that a list of events has a course if its renames and inlinings have answers.
+/// Proves that a list of events has a course if its renames and inlinings have answers.
 pub fn a_course_fits_formatting()
     ensures { ACourseFitsFormatting }
 {
@@ -60,8 +64,9 @@ pub fn a_course_fits_formatting()
     a_course_fits();
 }
 
-/// States that there is an exchange in which an editor initializes a session, opens a document at version 0, sends a
-/// hover and a request for code actions in a range, of one kind, and applies the answer by two changes in one notification.
+/// Proves that the worked exchange exists. An editor initializes a session and opens a document
+/// with version 0. It sends a hover and a request for the code actions of one kind in a range. It
+/// applies the answer by two changes in one notification.
 pub fn a_worked_exchange()
     ensures { AWorkedExchange }
 {

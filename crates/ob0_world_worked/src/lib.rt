@@ -1,4 +1,5 @@
-//! Worked answers and a worked exchange, as laws, and a law that answers exist.
+//! Proves worked answers and a worked exchange for one text, and that a request for formatting has
+//! an answer.
 #![tactic(auto)]
 
 pub mod laws;
